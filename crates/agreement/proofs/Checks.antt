@@ -1,0 +1,4 @@
+pub mod Cases
+pub mod Vectors
+pub mod Reached
+pub mod Flags

@@ -1,0 +1,4 @@
+pub mod Memory
+pub mod Fetching
+pub mod Straight
+pub mod Steps

@@ -1,0 +1,7 @@
+pub mod Laws
+pub mod Host
+pub mod Codec
+pub mod Words
+pub mod Block
+pub mod Turns
+pub mod Checks

@@ -1,0 +1,15 @@
+-- What the translator and the manual's run share: two numbers of document 01, and a name for each of the two helpers.
+use Prim.Native.Nat.{ℕ}
+
+-- document 01, "Block bytes" and number 5: the greatest length of a block, and so the least output that is accepted
+abbrev pub greatest : ℕ
+greatest = 2243
+
+-- document 01, "The manual's run in demand 3": no more than 64 instructions to a turn, whatever the limit (the Rust's
+-- `max_steps.min(64)`)
+abbrev pub mostSteps : ℕ
+mostSteps = 64
+
+-- document 01, "Block bytes": the helper for a compressed halfword, the helper for loads and stores
+pub data Helper : Type 0 where
+  forHalfword forAccess : Helper

@@ -1,0 +1,119 @@
+-- Statements that are proved beside the agreement, a theorem of the same name in small letters for each.
+use mathlib.Core.Path.{_≡_}
+use mathlib.Core.Bool.{cond}
+use mathlib.Core.List.{List, _++_}
+use mathlib.Core.Logic.{_≢_}
+use mathlib.Core.Option.{some}
+use Prim.Native.Nat.{ℕ, suc, _+_, _%_, _^_, _≤_, _<_}
+use lib.ListN.{length, take, drop}
+use lib.Dec.{ltb, eqb}
+use lib.Signed.{ltZ}
+use Rattle.agreement.specs.Common.{greatest}
+use Rattle.agreement.specs.Riscv.Fields.{opcode, funct3}
+use Rattle.agreement.specs.Riscv.Immediates as Manual
+use Rattle.agreement.specs.Riscv.Instruction.{Instruction.JALR, Instruction.other, signed, shiftRightArithmetic, named}
+use Rattle.agreement.specs.Riscv.Run.{chosen, taken}
+use Rattle.agreement.specs.X86.Form.{Instr, Ok, Shift.sar, Cc.B, Cc.E, Cc.L}
+use Rattle.agreement.specs.X86.Encode.{encode}
+use Rattle.agreement.specs.X86.Decode.{decode, Bytes}
+use Rattle.agreement.specs.X86.State.{Flags, State, Permissions}
+use Rattle.agreement.specs.X86.Step.{steps, Goes}
+use Rattle.agreement.specs.X86.Flags.{sext, subFlags, holds, shifted}
+use Rattle.agreement.specs.Translation.Decode32 as Decode32
+use Rattle.agreement.specs.Translation.Kind.{kind}
+use Rattle.agreement.specs.Translation.Replies.{Block, Reply.block, outputAfter, translate}
+
+-- Encoder and decoder. What an encoder writes decodes to that instruction, whatever follows, and it has its length;
+-- what the decoder takes is byte for byte what the encoder writes, with operands in range.
+
+unfoldable pub Decodes : Type 0
+Decodes = (i : Instr) (rest : List ℕ) → Ok i → decode (encode i ++ rest) ≡ some (i, rest)
+
+unfoldable pub Encodes : Type 0
+Encodes = (bs : List ℕ) (i : Instr) (rest : List ℕ)
+    → Bytes bs → decode bs ≡ some (i, rest) → (bs ≡ encode i ++ rest) × Ok i
+
+-- Which instruction a word is. The Rust's tests take exactly the words that document 01 takes, each for the instruction
+-- that the manual's listing names, JALR with funct3 1 to 7 apart.
+
+unfoldable pub TakenAlike : Type 0
+TakenAlike = (w : ℕ) → kind w ≡ taken w
+
+-- but for JALR's row: what the listing names where document 01 chooses it, and else not taken
+pub record NamedAlike (w : ℕ) : Type 0 where
+  pub elsewhere : opcode w ≢ 0x67 → kind w ≡ cond (chosen (named w)) (named w) other
+  pub jalr : opcode w ≡ 0x67 → kind w ≡ JALR
+  pub jalr-named : opcode w ≡ 0x67 → funct3 w ≡ 0 → named w ≡ JALR
+
+unfoldable pub NamesAlike : Type 0
+NamesAlike = (w : ℕ) → NamedAlike w
+
+-- The immediates: decode.rs and the manual give one number for every 32-bit word.
+
+pub record ImmediatesAlike : Type 0 where
+  pub i-alike : (w : ℕ) → w < 2 ^ 32 → Decode32.immI w ≡ Manual.immI w
+  pub s-alike : (w : ℕ) → w < 2 ^ 32 → Decode32.immS w ≡ Manual.immS w
+  pub b-alike : (w : ℕ) → Decode32.immB w ≡ Manual.immB w
+  pub u-alike : (w : ℕ) → Decode32.immU w ≡ Manual.immU w
+  pub j-alike : (w : ℕ) → Decode32.immJ w ≡ Manual.immJ w
+
+-- -4096 to 4094 and -1048576 to 1048574, both even: with the least added, modulo 2^64, the number is at most the span
+pub record Ranges : Type 0 where
+  pub b-range : (w : ℕ) → (Manual.immB w + 4096) % 2 ^ 64 ≤ 4096 + 4094
+  pub b-even : (w : ℕ) → Manual.immB w % 2 ≡ 0
+  pub j-range : (w : ℕ) → (Manual.immJ w + 1048576) % 2 ^ 64 ≤ 1048576 + 1048574
+  pub j-even : (w : ℕ) → Manual.immJ w % 2 ≡ 0
+
+-- Laws over the width: the three sign extensions are one, and so are the two arithmetic shifts; flags after CMP against
+-- the signed order, the unsigned order and equality.
+
+unfoldable pub SignExtends : Type 0
+SignExtends = (k a : ℕ) → a < 2 ^ suc k → Manual.signExtend (suc k) a ≡ sext (suc k) 64 a
+
+unfoldable pub SignExtendsByShifts : Type 0
+SignExtendsByShifts = (k a : ℕ) → suc k ≤ 64 → a < 2 ^ suc k → Decode32.signExtend (suc k) a ≡ Manual.signExtend (suc k) a
+
+unfoldable pub ShiftsArithmetic : Type 0
+ShiftsArithmetic =
+    (k a c : ℕ) → a < 2 ^ suc k → c ≤ suc k → shiftRightArithmetic (suc k) a c ≡ shifted (suc k) sar a c
+
+pub record Compares (k a b : ℕ) : Type 0 where
+  pub less : holds L (subFlags (suc k) a b) ≡ ltZ (signed (suc k) a) (signed (suc k) b)
+  pub below : holds B (subFlags (suc k) a b) ≡ ltb a b
+  pub equal : holds E (subFlags (suc k) a b) ≡ eqb a b
+
+unfoldable pub ComparesByFlags : Type 0
+ComparesByFlags = (k a b : ℕ) → a < 2 ^ suc k → b < 2 ^ suc k → Compares k a b
+
+-- The steps of an entry, a relation in the statement, are those of the function that runs the model.
+
+unfoldable pub StepsAlike : Type 0
+StepsAlike = (undefined : State → Flags) (ok : Permissions) (s t : State) (n : ℕ) (ws : List ℕ)
+    → Goes undefined ok s n ws t → steps undefined ok n s ≡ some (t, ws)
+
+-- What a block's reply leaves in the output: the block at its front, the rest as before, the length as before.
+
+pub record LeftInOutput (b : Block) (out : List ℕ) : Type 0 where
+  pub front : take (length (b .code)) (outputAfter (block b) out) ≡ b .code
+  pub rest : drop (length (b .code)) (outputAfter (block b) out) ≡ drop (length (b .code)) out
+  pub long : length (outputAfter (block b) out) ≡ length out
+
+unfoldable pub OutputsBlock : Type 0
+OutputsBlock = (b : Block) (out : List ℕ) → length (b .code) ≤ length out → LeftInOutput b out
+
+-- No block is shorter than 67 or longer than 2,243 bytes, and both are reached.
+
+unfoldable pub Lengths : Type 0
+Lengths = (start limit : ℕ) (hs : List ℕ) (helper16 helperMem room : ℕ) (b : Block)
+    → translate start limit hs helper16 helperMem room ≡ block b → (67 ≤ length (b .code)) × (length (b .code) ≤ greatest)
+
+pub record Reaches (n : ℕ) : Type 0 where
+  pub start : ℕ
+  pub limit : ℕ
+  pub halfwords : List ℕ
+  pub result : Block
+  pub reply : translate start limit halfwords 0 0 2243 ≡ block result
+  pub long : length (result .code) ≡ n
+
+unfoldable pub BothReached : Type 0
+BothReached = Reaches 67 × Reaches 2243

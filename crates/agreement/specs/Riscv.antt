@@ -1,0 +1,4 @@
+pub mod Fields
+pub mod Immediates
+pub mod Instruction
+pub mod Run

@@ -1,0 +1,6 @@
+pub mod Decode32
+pub mod Kind
+pub mod Emit
+pub mod Walk
+pub mod Replies
+pub mod Place

@@ -1,0 +1,151 @@
+-- What an instruction does: the "Operation" section of its page in the Intel SDM volume 2. RIP is already past it.
+use mathlib.Core.Bool.{cond}
+use mathlib.Core.List.{List, []}
+use Prim.Native.Nat.{ℕ, _+_, _-_, _*_, _/_, _%_, _^_}
+use Rattle.agreement.specs.X86.Memory.{at, read, write, span}
+use Rattle.agreement.specs.X86.Form.{RAX, RCX, RSP, Width, Width.r32, Width.r64, Alu, Alu.add, Alu.or, Alu.and, Alu.sub, Alu.xor, Alu.cmp, Shift, Instr, Instr.push, Instr.pop, Instr.mov, Instr.movImm64, Instr.load, Instr.store, Instr.alu, Instr.aluImm32, Instr.aluImm8, Instr.shiftCl, Instr.shiftImm8, Instr.imul, Instr.movsxd, Instr.setccAl, Instr.movzx, Instr.cmov, Instr.callRax, Instr.ret}
+use Rattle.agreement.specs.X86.State.{Flags, State, set}
+use Rattle.agreement.specs.X86.Flags.{sext, aluValue, aluFlags, holds, shifted, shiftFlags, imulFlags, bitOf}
+
+abbrev pub widthBits : Width → ℕ
+widthBits r64 = 64
+widthBits r32 = 32
+
+-- the eight bytes that a push writes; the eight bytes of a memory operand, whose displacement is sign-extended
+abbrev pub below : State → ℕ
+below s = at (s .regs RSP) (2 ^ 64 - 8)
+
+abbrev pub operand : ℕ → ℕ → State → ℕ
+operand b o s = at (s .regs b) (sext 32 64 o)
+
+-- the addresses that an instruction reads
+unfoldable pub reads : Instr → State → List ℕ
+reads (push r) s = []
+reads (pop r) s = span 8 (s .regs RSP)
+reads (mov d r) s = []
+reads (movImm64 d v) s = []
+reads (load d b o) s = span 8 (operand b o s)
+reads (store b o r) s = []
+reads (alu w op d r) s = []
+reads (aluImm32 op d v) s = []
+reads (aluImm8 op d v) s = []
+reads (shiftCl w op d) s = []
+reads (shiftImm8 w op d v) s = []
+reads (imul w d r) s = []
+reads (movsxd d r) s = []
+reads (setccAl c) s = []
+reads (movzx d r) s = []
+reads (cmov c d r) s = []
+reads callRax s = []
+reads ret s = span 8 (s .regs RSP)
+
+-- the addresses that it writes
+unfoldable pub writes : Instr → State → List ℕ
+writes (push r) s = span 8 (below s)
+writes (pop r) s = []
+writes (mov d r) s = []
+writes (movImm64 d v) s = []
+writes (load d b o) s = []
+writes (store b o r) s = span 8 (operand b o s)
+writes (alu w op d r) s = []
+writes (aluImm32 op d v) s = []
+writes (aluImm8 op d v) s = []
+writes (shiftCl w op d) s = []
+writes (shiftImm8 w op d v) s = []
+writes (imul w d r) s = []
+writes (movsxd d r) s = []
+writes (setccAl c) s = []
+writes (movzx d r) s = []
+writes (cmov c d r) s = []
+writes callRax s = span 8 (below s)
+writes ret s = []
+
+abbrev pub withRegs : (ℕ → ℕ) → State → State
+withRegs f s = record { regs = f; flags = s .flags; rip = s .rip; mem = s .mem }
+
+abbrev pub withReg : ℕ → ℕ → State → State
+withReg d v s = withRegs (set (s .regs) d v) s
+
+-- where the result of an ALU operation goes; CMP discards it
+abbrev pub result : Alu → (ℕ → ℕ) → ℕ → ℕ → ℕ → ℕ
+result add f d v = set f d v
+result or f d v = set f d v
+result and f d v = set f d v
+result sub f d v = set f d v
+result xor f d v = set f d v
+result cmp f d v = f
+
+-- `undefined` says what becomes of flags that the SDM leaves undefined. It is a function of the state after the fetch;
+-- a block has no loop, so that none of its states occurs twice in one entry, and each choice is a free one.
+module _ (undefined : State → Flags) where
+  -- b: the second operand. A result of 32 bits is below 2^32: the upper half of the register is cleared.
+  abbrev pub aluTo : ℕ → Alu → ℕ → ℕ → State → State
+  aluTo w op d b s =
+      let a : ℕ = s .regs d % 2 ^ w in
+      record {
+        regs = result op (s .regs) d (aluValue w op a b);
+        flags = aluFlags w op a b (undefined s);
+        rip = s .rip;
+        mem = s .mem;
+      }
+
+  -- c: the count, already masked
+  abbrev pub shiftTo : ℕ → Shift → ℕ → ℕ → State → State
+  shiftTo w op d c s =
+      let a : ℕ = s .regs d % 2 ^ w in
+      record {
+        regs = set (s .regs) d (shifted w op a c);
+        flags = shiftFlags w op a c (s .flags) (undefined s);
+        rip = s .rip;
+        mem = s .mem;
+      }
+
+  abbrev pub imulTo : ℕ → ℕ → ℕ → State → State
+  imulTo w d r s = record {
+    regs = set (s .regs) d (s .regs d * s .regs r % 2 ^ w);
+    flags = imulFlags w (s .regs d % 2 ^ w) (s .regs r % 2 ^ w) (undefined s);
+    rip = s .rip;
+    mem = s .mem;
+  }
+
+  -- "IF OperandSize is 64: countMASK := 3FH, ELSE 1FH": a count is taken modulo the operand size.
+  -- SETcc writes AL, the low byte of RAX, alone. CMOVcc with a false condition leaves a 64-bit destination as it is.
+  unfoldable pub exec : Instr → State → State
+  exec (push r) s = record {
+    regs = set (s .regs) RSP (below s);
+    flags = s .flags;
+    rip = s .rip;
+    mem = write 8 (s .mem) (below s) (s .regs r);
+  }
+  exec (pop r) s = withRegs (set (set (s .regs) RSP (at (s .regs RSP) 8)) r (read 8 (s .mem) (s .regs RSP))) s
+  exec (mov d r) s = withReg d (s .regs r) s
+  exec (movImm64 d v) s = withReg d v s
+  exec (load d b o) s = withReg d (read 8 (s .mem) (operand b o s)) s
+  exec (store b o r) s = record {
+    regs = s .regs;
+    flags = s .flags;
+    rip = s .rip;
+    mem = write 8 (s .mem) (operand b o s) (s .regs r);
+  }
+  exec (alu w op d r) s = aluTo (widthBits w) op d (s .regs r % 2 ^ widthBits w) s
+  exec (aluImm32 op d v) s = aluTo 64 op d (sext 32 64 v) s
+  exec (aluImm8 op d v) s = aluTo 64 op d (sext 8 64 v) s
+  exec (shiftCl w op d) s = shiftTo (widthBits w) op d (s .regs RCX % widthBits w) s
+  exec (shiftImm8 w op d v) s = shiftTo (widthBits w) op d (v % widthBits w) s
+  exec (imul w d r) s = imulTo (widthBits w) d r s
+  exec (movsxd d r) s = withReg d (sext 32 64 (s .regs r % 2 ^ 32)) s
+  exec (setccAl c) s = withReg RAX (s .regs RAX / 256 * 256 + bitOf (holds c (s .flags))) s
+  exec (movzx d r) s = withReg d (s .regs r % 256) s
+  exec (cmov c d r) s = withReg d (cond (holds c (s .flags)) (s .regs r) (s .regs d)) s
+  exec callRax s = record {
+    regs = set (s .regs) RSP (below s);
+    flags = s .flags;
+    rip = s .regs RAX;
+    mem = write 8 (s .mem) (below s) (s .rip);
+  }
+  exec ret s = record {
+    regs = set (s .regs) RSP (at (s .regs RSP) 8);
+    flags = s .flags;
+    rip = read 8 (s .mem) (s .regs RSP);
+    mem = s .mem;
+  }
