@@ -4,3 +4,4 @@ pub mod Reading
 pub mod Visiting
 pub mod Determined
 pub mod Agreement
+pub mod Consequences

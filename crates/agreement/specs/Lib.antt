@@ -5,3 +5,4 @@ pub mod Translation
 pub mod Turns
 pub mod Laws
 pub mod Cases
+pub mod Example

@@ -1,0 +1,99 @@
+-- A list of turns that meets every premise: the theorem is applied to it, so that its premises are seen to be met.
+-- Registers at 0x10000, block at 0x20000, entry stack pointer 0x30008. The block may only be fetched from, the registers and
+-- the stack only read and written, and nothing else may be touched.
+use mathlib.Core.Bool.{Bool, false, _&&_, _||_}
+use mathlib.Core.List.{List, [], _∷_}
+use Prim.Native.Nat.{ℕ, _+_, _*_}
+use lib.ListN.{replicate}
+use lib.Dec.{leb, ltb}
+use Rattle.agreement.specs.X86.Memory.{at, read, write}
+use Rattle.agreement.specs.X86.Form.{RAX, RDX, RSP}
+use Rattle.agreement.specs.X86.State.{Flags, State, Permissions, set}
+use Rattle.agreement.specs.Turns.Machine.{RegisterBytes, Turn}
+use Rattle.agreement.specs.Cases.{words}
+
+-- the n addresses from a
+unfoldable pub range : ℕ → ℕ → ℕ → Bool
+range a n x = leb a x && ltb x (a + n)
+
+abbrev pub permissions : Permissions
+permissions = record {
+  fetch = range 0x20000 2243;
+  read = λ x. range 0x10000 256 x || range 0x2FFC8 72 x;
+  write = λ x. range 0x10000 256 x || range 0x2FFC8 72 x;
+}
+
+-- a helper that sets slot r to v and slot x0 to 0, and returns with RAX and RDX as given
+unfoldable pub leaves : ℕ → ℕ → ℕ → ℕ → State → State
+leaves r v rax rdx u = record {
+  regs = set (set (set (u .regs) RSP (at (u .regs RSP) 8)) RAX rax) RDX rdx;
+  flags = u .flags;
+  rip = read 8 (u .mem) (u .regs RSP);
+  mem = write 8 (write 8 (u .mem) (0x10000 + 8 * r) v) 0x10000 0;
+}
+
+abbrev pub clear : Flags
+clear = record { cf = false; pf = false; af = false; zf = false; sf = false; of = false }
+
+abbrev pub turnOf : List ℕ → (State → State) → Turn
+turnOf hs helper = record {
+  limit = 64;
+  halfwords = hs;
+  helper16 = 0x1111;
+  helperMem = 0x2222;
+  output = replicate 2243 0;
+  block = 0x20000;
+  base = 0x10000;
+  sp = 0x30008;
+  others = λ k. 5;
+  flags = clear;
+  rest = λ a. 0xCC;
+  ok = permissions;
+  undefined = λ s. clear;
+  helper = helper;
+}
+
+-- limit 0: refused. Everything stands at address 0, and nothing may be touched: no premise is asked of it.
+abbrev pub refusedTurn : Turn
+refusedTurn = record {
+  limit = 0;
+  halfwords = [];
+  helper16 = 0;
+  helperMem = 0;
+  output = [];
+  block = 0;
+  base = 0;
+  sp = 0;
+  others = λ k. 0;
+  flags = clear;
+  rest = λ a. 0;
+  ok = record { fetch = λ x. false; read = λ x. false; write = λ x. false };
+  undefined = λ s. clear;
+  helper = λ s. s;
+}
+
+-- ADDI x1, x0, 5; LD x1, 0(x1): the helper leaves x1 = 7, the pc 0x80000010 and RDX 3
+abbrev pub helperTurn : Turn
+helperTurn = turnOf (words (0x00500093 ∷ 0x0000B083 ∷ [])) (leaves 1 7 0x80000010 3)
+
+-- ADDI x2, x1, 1; BNE x1, x2, 16: no helper is called
+abbrev pub plainTurn : Turn
+plainTurn = turnOf (words (0x00108113 ∷ 0x00209863 ∷ [])) (leaves 1 0 0 0)
+
+-- a compressed halfword: the helper leaves x10 = 9 and an odd pc
+abbrev pub halfwordTurn : Turn
+halfwordTurn = turnOf (0x4501 ∷ []) (leaves 10 9 0x80000031 1)
+
+-- the first pc, and register bytes that are all zero
+abbrev pub firstPc : ℕ
+firstPc = 0xFFFFFFFFFFFFFFF8
+
+abbrev pub zeros : RegisterBytes
+zeros i = 0
+
+abbrev pub threeTurns : List Turn
+threeTurns = refusedTurn ∷ helperTurn ∷ plainTurn ∷ []
+
+-- the last turn finds an odd pc, and is refused
+abbrev pub fiveTurns : List Turn
+fiveTurns = refusedTurn ∷ helperTurn ∷ plainTurn ∷ halfwordTurn ∷ plainTurn ∷ []
