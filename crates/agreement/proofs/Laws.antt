@@ -4,5 +4,6 @@ pub mod Compare
 pub mod Fields
 pub mod Immediates
 pub mod Naming
+pub mod Leftover
 pub mod Length
 pub mod Output

@@ -5,8 +5,7 @@ use Prim.Native.Nat.{ℕ}
 abbrev pub greatest : ℕ
 greatest = 2243
 
--- document 01, "The manual's run in demand 3": no more than 64 instructions to a turn, whatever the limit (the Rust's
--- `max_steps.min(64)`)
+-- document 01, "The manual's run in demand 3": at most 64 instructions to a turn (the Rust's `max_steps.min(64)`)
 abbrev pub mostSteps : ℕ
 mostSteps = 64
 

@@ -23,8 +23,7 @@ use Rattle.agreement.specs.Translation.Decode32 as Decode32
 use Rattle.agreement.specs.Translation.Kind.{kind}
 use Rattle.agreement.specs.Translation.Replies.{Block, Reply.block, outputAfter, translate}
 
--- Encoder and decoder. What an encoder writes decodes to that instruction, whatever follows, and it has its length;
--- what the decoder takes is byte for byte what the encoder writes, with operands in range.
+-- What the encoder writes decodes to that instruction, whatever follows; what decodes is byte for byte so written.
 
 unfoldable pub Decodes : Type 0
 Decodes = (i : Instr) (rest : List ℕ) → Ok i → decode (encode i ++ rest) ≡ some (i, rest)
@@ -33,8 +32,7 @@ unfoldable pub Encodes : Type 0
 Encodes = (bs : List ℕ) (i : Instr) (rest : List ℕ)
     → Bytes bs → decode bs ≡ some (i, rest) → (bs ≡ encode i ++ rest) × Ok i
 
--- Which instruction a word is. The Rust's tests take exactly the words that document 01 takes, each for the instruction
--- that the manual's listing names, JALR with funct3 1 to 7 apart.
+-- Which instruction a word is: the Rust's tests and the manual's listing name the same, JALR with funct3 1 to 7 apart.
 
 unfoldable pub TakenAlike : Type 0
 TakenAlike = (w : ℕ) → kind w ≡ taken w
@@ -64,8 +62,7 @@ pub record Ranges : Type 0 where
   pub j-range : (w : ℕ) → (Manual.immJ w + 1048576) % 2 ^ 64 ≤ 1048576 + 1048574
   pub j-even : (w : ℕ) → Manual.immJ w % 2 ≡ 0
 
--- Laws over the width: the three sign extensions are one, and so are the two arithmetic shifts; flags after CMP against
--- the signed order, the unsigned order and equality.
+-- Over the width: the three sign extensions, the two arithmetic shifts, flags after CMP against the orders and equality.
 
 unfoldable pub SignExtends : Type 0
 SignExtends = (k a : ℕ) → a < 2 ^ suc k → Manual.signExtend (suc k) a ≡ sext (suc k) 64 a
@@ -77,13 +74,11 @@ unfoldable pub ShiftsArithmetic : Type 0
 ShiftsArithmetic =
     (k a c : ℕ) → a < 2 ^ suc k → c ≤ suc k → shiftRightArithmetic (suc k) a c ≡ shifted (suc k) sar a c
 
-pub record Compares (k a b : ℕ) : Type 0 where
-  pub less : holds L (subFlags (suc k) a b) ≡ ltZ (signed (suc k) a) (signed (suc k) b)
-  pub below : holds B (subFlags (suc k) a b) ≡ ltb a b
-  pub equal : holds E (subFlags (suc k) a b) ≡ eqb a b
-
 unfoldable pub ComparesByFlags : Type 0
-ComparesByFlags = (k a b : ℕ) → a < 2 ^ suc k → b < 2 ^ suc k → Compares k a b
+ComparesByFlags = (k a b : ℕ) → a < 2 ^ suc k → b < 2 ^ suc k
+    → (holds L (subFlags (suc k) a b) ≡ ltZ (signed (suc k) a) (signed (suc k) b))
+    × (holds B (subFlags (suc k) a b) ≡ ltb a b)
+    × (holds E (subFlags (suc k) a b) ≡ eqb a b)
 
 -- The steps of an entry, a relation in the statement, are those of the function that runs the model.
 

@@ -4,5 +4,3 @@ pub mod X86
 pub mod Translation
 pub mod Turns
 pub mod Laws
-pub mod Cases
-pub mod Example

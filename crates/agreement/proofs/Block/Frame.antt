@@ -9,7 +9,7 @@ use native.Mathlib.Nat.{mod-eq-of-lt}
 use native.Mathlib.Omega.{arith}
 use lib.Dec.{leb}
 use Rattle.agreement.specs.Translation.Emit.{closing, opening}
-use Rattle.agreement.specs.X86.Execute.{exec, reads, writes}
+use Rattle.agreement.specs.X86.Execute.{accesses, exec}
 use Rattle.agreement.specs.X86.Flags.{aluValue, sext}
 use Rattle.agreement.specs.X86.Form.{Alu.add, Alu.sub, Instr, Instr.aluImm8, Instr.mov, Instr.push, R12, R13, R14, R15, R8, R9, RAX, RBP, RBX, RCX, RDI, RDX, RSI, RSP}
 use Rattle.agreement.specs.X86.Memory.{Memory, at, read, span, write}
@@ -19,6 +19,7 @@ use Rattle.agreement.proofs.Host.Fetching.{one}
 use Rattle.agreement.proofs.Host.Memory.{read-other, read-write, write-out}
 use Rattle.agreement.proofs.Host.Straight.{Kept, Safe, all-append, all-span, run, safe-append, trace}
 use Rattle.agreement.proofs.Laws.Tests.{leb-true}
+use Rattle.agreement.proofs.Turns.Replying.{Replied.out}
 
 -- 1. Eight bytes of the stack
 
@@ -81,7 +82,8 @@ popped p f = record {
 unfoldable pub frame : State → ℕ → Memory
 frame s p =
     write 8 (write 8 (write 8 (write 8 (write 8 (write 8 (s .mem)
-    (p + 56) (s .regs RBX)) (p + 48) (s .regs RBP)) (p + 40) (s .regs R12)) (p + 32) (s .regs R13)) (p + 24) (s .regs R14)) (p + 16) (s .regs R15)
+    (p + 56) (s .regs RBX)) (p + 48) (s .regs RBP)) (p + 40) (s .regs R12))
+    (p + 32) (s .regs R13)) (p + 24) (s .regs R14)) (p + 16) (s .regs R15)
 
 -- what the frame holds; the registers at entry are below 2^64
 pub record Framed (s : State) (p : ℕ) (m : Memory) : Type 0 where
@@ -165,10 +167,11 @@ module _ (undefined : State → Flags) (s : State) (p : ℕ) (sp : s .regs RSP �
 
   pushes-safe : (ok : Permissions) → ((j : ℕ) → j < 72 → ok .write (p + j) ≡ true)
       → (c n : ℕ) → c + n ≤ 2 ^ 64 → ((i j : ℕ) → i < n → j < 64 → c + i ≢ p + j) → Safe undefined ok c n pushes s
-  unfolding Safe one past exec reads writes all
+  unfolding Safe one past exec accesses all
   pushes-safe ok o c n f a =
       let d = pushed p fits in
-      let w : (k : ℕ) → k + 8 ≤ 72 → all (ok .write) (span 8 (p + k)) ≡ true = λ k l. stack-all p fits (ok .write) 0 (λ j h m. o j m) k (omega arith) l in
+      let w : (k : ℕ) → k + 8 ≤ 72 → all (ok .write) (span 8 (p + k)) ≡ true =
+      λ k l. stack-all p fits (ok .write) 0 (λ j h m. o j m) k (omega arith) l in
       let k : (j : ℕ) → j + 8 ≤ 64 → (m : Memory) (v : ℕ) → Kept c n m (write 8 m (p + j) v) =
       λ j l m v i o. write-out 8 m (p + j) v (at c i) (omega arith) (λ u w. omega (arith, a i (j + u) o (omega arith))) in
       rw (sp, d .p56, d .p48, d .p40, d .p32, d .p24, d .p16) (
@@ -199,7 +202,7 @@ module _ (undefined : State → Flags) (s : State) (p : ℕ) (sp : s .regs RSP �
       )
 
   moves-safe : (ok : Permissions) (c n : ℕ) (s : State) → Safe undefined ok c n moves s
-  unfolding Safe one past exec reads writes all
+  unfolding Safe one past exec accesses all
   moves-safe ok c n s = (
     refl,
     refl,
@@ -238,7 +241,7 @@ module _ (undefined : State → Flags) (s : State) (p : ℕ) (sp : s .regs RSP �
 
   opening-log : trace undefined opening s
       ≡ span 8 (p + 56) ++ (span 8 (p + 48) ++ (span 8 (p + 40) ++ (span 8 (p + 32) ++ (span 8 (p + 24) ++ (span 8 (p + 16) ++ [])))))
-  unfolding trace one past exec writes
+  unfolding trace one past exec accesses
   opening-log = let d = pushed p fits in rw (sp, d .p56, d .p48, d .p40, d .p32, d .p24, d .p16)
 
   pub opening-trace : (P : ℕ → Bool) → ((j : ℕ) → 16 ≤ j → j < 64 → P (p + j) ≡ true) → all P (trace undefined opening s) ≡ true
@@ -286,10 +289,11 @@ module _ (undefined : State → Flags) (s : State) (p : ℕ) (sp : s .regs RSP �
       }
 
   pub closing-safe : (ok : Permissions) → ((j : ℕ) → j < 72 → ok .read (p + j) ≡ true) → (c n : ℕ) → Safe undefined ok c n closing s
-  unfolding Safe one past exec reads writes all aluValue sext
+  unfolding Safe one past exec accesses all aluValue sext
   closing-safe ok o c n =
       let u = popped p fits in
-      let r : (k : ℕ) → k + 8 ≤ 72 → all (ok .read) (span 8 (p + k)) ≡ true = λ k l. stack-all p fits (ok .read) 0 (λ j h m. o j m) k (omega arith) l in
+      let r : (k : ℕ) → k + 8 ≤ 72 → all (ok .read) (span 8 (p + k)) ≡ true =
+      λ k l. stack-all p fits (ok .read) 0 (λ j h m. o j m) k (omega arith) l in
       rw (sp, u .low, u .p16, u .p24, u .p32, u .p40, u .p48, u .p56) (
         refl,
         refl,
@@ -323,5 +327,5 @@ module _ (undefined : State → Flags) (s : State) (p : ℕ) (sp : s .regs RSP �
       )
 
   pub closing-trace : trace undefined closing s ≡ []
-  unfolding trace one past exec writes
+  unfolding trace one past exec accesses
   closing-trace = refl

@@ -12,15 +12,15 @@ use Rattle.agreement.specs.Translation.Emit.{closing, opening}
 use Rattle.agreement.specs.Turns.Premises.{Apart}
 use Rattle.agreement.specs.X86.Decode.{Operand.mem}
 use Rattle.agreement.specs.X86.Encode.{bytes, encode}
-use Rattle.agreement.specs.X86.Execute.{exec, reads, writes}
+use Rattle.agreement.specs.X86.Execute.{accesses, exec}
 use Rattle.agreement.specs.X86.Form.{Instr, Instr.callRax, Instr.ret, Ok, R12, R13, R14, R15, RAX, RBP, RBX, RCX, RDI, RDX, RSI, RSP}
 use Rattle.agreement.specs.X86.Memory.{Memory, at, read, span, write}
 use Rattle.agreement.specs.X86.State.{Flags, Permissions, State, set}
 use Rattle.agreement.specs.X86.Step.{Goes, all, next, past, step}
 use Rattle.agreement.proofs.Block.Frame.{Closed, Framed, Opened, above-read, at-read, closed, closing-safe, closing-trace, frame, frame-out, framed, framed-same, opened, opening-safe, opening-trace, stack-all}
-use Rattle.agreement.proofs.Host.Fetching.{Holds, fetch, holds-bytes, holds-ext, holds-split, next-is, one, step-is}
+use Rattle.agreement.proofs.Host.Fetching.{Holds, fetch, holds-bytes, holds-ext, holds-split, next-is, one, step-is, writes}
 use Rattle.agreement.proofs.Host.Memory.{read-bytes, read-ext, write-out}
-use Rattle.agreement.proofs.Host.Straight.{Fine, Safe, all-append, all-span, goes-append, ran, run, trace, unlogged}
+use Rattle.agreement.proofs.Host.Straight.{Fine, Kept, Safe, all-append, all-span, goes-append, ran, run, trace, unlogged}
 use Rattle.agreement.proofs.Words.Fit.{Fit}
 use Rattle.agreement.proofs.Words.Slots.{Slots}
 use Rattle.agreement.proofs.Words.Tame.{Within, tame-run, tame-safe, tame-trace}
@@ -118,7 +118,12 @@ unfolding all
 nothing P = refl
 
 ret-state : (undefined : State → Flags) (s : State)
-    → one undefined ret s ≡ record { regs = set (s .regs) RSP (at (s .regs RSP) 8); flags = s .flags; rip = read 8 (s .mem) (s .regs RSP); mem = s .mem }
+    → one undefined ret s ≡ record {
+      regs = set (s .regs) RSP (at (s .regs RSP) 8);
+      flags = s .flags;
+      rip = read 8 (s .mem) (s .regs RSP);
+      mem = s .mem;
+    }
 unfolding one past exec
 ret-state undefined s = refl
 
@@ -134,7 +139,8 @@ module _ (undefined : State → Flags) (ok : Permissions) (P : ℕ → Bool) (b 
   -- 2. From the entry through the opening
 
   pub begin : (x : Registers) (post : List ℕ) (s : State) → code ≡ bytes opening ++ post → Entry ok b c p x code s
-      → Way undefined ok P s (run undefined opening s) (length opening) × Mid ok b c p code s x (length (bytes opening)) (run undefined opening s)
+      → Way undefined ok P s (run undefined opening s) (length opening)
+      × Mid ok b c p code s x (length (bytes opening)) (run undefined opening s)
   begin x post s q h =
       let t : State = run undefined opening s in
       let pf : p + 72 ≤ 2 ^ 64 = pl .p-fits in
@@ -146,7 +152,8 @@ module _ (undefined : State → Flags) (ok : Permissions) (P : ℕ → Bool) (b 
       opening-safe undefined s p (h .rsp) pf ok (pl .p-write) c (length code) (pl .c-fits) (λ i j l o. pl .c-p i j l (omega arith)) in
       let r = ran undefined ok c code opening [] post s q lo opening-fine sf (h .held) z in
       let sl : (r : ℕ) → r < 32 → read 8 (frame s p) (b + 8 * r) ≡ read 8 (s .mem) (b + 8 * r) = λ r l.
-      read-ext 8 (frame s p) (s .mem) (b + 8 * r) (omega arith) (λ i k. frame-out s p pf (at (b + 8 * r) i) (λ j o. omega (arith, pl .b-p (8 * r + i) j (omega arith) (omega arith)))) in (
+      read-ext 8 (frame s p) (s .mem) (b + 8 * r) (omega arith) (λ i k. frame-out s p pf (at (b + 8 * r) i) (λ j o.
+      omega (arith, pl .b-p (8 * r + i) j (omega arith) (omega arith)))) in (
         record { ws = trace undefined opening s; goes = r .reached; own = opening-trace undefined s p (h .rsp) pf P (pl .own-p) },
         record {
           rip = r .there ∙ ap (at c) (omega arith);
@@ -167,7 +174,8 @@ module _ (undefined : State → Flags) (ok : Permissions) (P : ℕ → Bool) (b 
   frame-kept e s t w h = framed-same e p (s .mem) (t .mem) (λ k l m.
       let f : p + 72 ≤ 2 ^ 64 = pl .p-fits in
       let f′ : b + 256 ≤ 2 ^ 64 = pl .b-fits in
-      read-ext 8 (t .mem) (s .mem) (p + k) (omega arith) (λ i o. w .outside (at (p + k) i) (λ j u. omega (arith, pl .b-p j (k + i) u (omega arith))))) h
+      read-ext 8 (t .mem) (s .mem) (p + k) (omega arith) (λ i o. w .outside (at (p + k) i) (λ j u.
+      omega (arith, pl .b-p j (k + i) u (omega arith))))) h
 
   pub go-on : (is : List Instr) (pre post : List ℕ) (e s : State) (x x′ : Registers) → code ≡ pre ++ (bytes is ++ post) → Fit is
       → Mid ok b c p code e x (length pre) s → Slots b x′ (run undefined is s)
@@ -204,12 +212,13 @@ module _ (undefined : State → Flags) (ok : Permissions) (P : ℕ → Bool) (b 
 
   ret-step : (u : State) → Holds (ok .fetch) (u .mem) (u .rip) (encode ret) → all (ok .read) (span 8 (u .regs RSP)) ≡ true
       → step undefined ok u ≡ some (one undefined ret u, [])
-  ret-step u h a = by (step-is undefined ok ret u ok-ret h (unfold reads in a) (unfold writes in nothing (ok .write)))
+  ret-step u h a = by (step-is undefined ok ret u ok-ret h (unfold accesses in a) (unfold accesses in nothing (ok .write)))
     where
       by : step undefined ok u ≡ some (one undefined ret u, writes ret u) → step undefined ok u ≡ some (one undefined ret u, [])
-      by e = unfold writes in e
+      by e = unfold accesses in e
 
-  pub leave : (x : Registers) (pre : List ℕ) (e s : State) → code ≡ pre ++ (bytes closing ++ encode ret) → Mid ok b c p code e x (length pre) s → Leaves e s
+  pub leave : (x : Registers) (pre : List ℕ) (e s : State) → code ≡ pre ++ (bytes closing ++ encode ret)
+      → Mid ok b c p code e x (length pre) s → Leaves e s
   leave x pre e s q h =
       let lo : c < 2 ^ 64 = pl .c-low in
       let pf : p + 72 ≤ 2 ^ 64 = pl .p-fits in
@@ -222,7 +231,8 @@ module _ (undefined : State → Flags) (ok : Permissions) (P : ℕ → Bool) (b 
       let hh = holds-split (ok .fetch) (u .mem) c w (encode ret) lo (rw q′ at (r .held)) in
       let z : u .rip ≡ at c (length w) = r .there ∙ ap (at c) (sym (length-append pre (bytes closing))) in
       let hr : Holds (ok .fetch) (u .mem) (u .rip) (encode ret) = rw z (hh .1) in
-      let sr : all (ok .read) (span 8 (p + 64)) ≡ true = stack-all p pf (ok .read) 0 (λ j l m. pl .p-read j m) 64 (omega arith) (omega arith) in
+      let sr : all (ok .read) (span 8 (p + 64)) ≡ true =
+      stack-all p pf (ok .read) 0 (λ j l m. pl .p-read j m) 64 (omega arith) (omega arith) in
       record {
         u = u;
         t = one undefined ret u;
@@ -261,7 +271,8 @@ module _ (undefined : State → Flags) (ok : Permissions) (P : ℕ → Bool) (b 
     pub r14 : u .regs R14 ≡ e .regs RCX
     pub frame : Framed e p (u .mem)
 
-  pub called-at : (x : Registers) (k : ℕ) (e u : State) → Mid ok b c p code e x k u → Inside e x (k + 2) (u .regs RAX) (one undefined callRax u)
+  pub called-at : (x : Registers) (k : ℕ) (e u : State) → Mid ok b c p code e x k u
+      → Inside e x (k + 2) (u .regs RAX) (one undefined callRax u)
   unfolding one past exec encode
   called-at x k e u h =
       let f : p + 72 ≤ 2 ^ 64 = pl .p-fits in
@@ -272,11 +283,13 @@ module _ (undefined : State → Flags) (ok : Permissions) (P : ℕ → Bool) (b 
       let v : ℕ = at c (k + 2) in
       let m : Memory = write 8 (u .mem) p v in
       let me : write 8 (u .mem) (at (u .regs RSP) (2 ^ 64 - 8)) (at (u .rip) 2) ≡ m = rw (h .rsp, z, h .rip, y) in
+      let kept : Kept c (length code) (u .mem) m = λ j l. write-out 8 (u .mem) p v (at c j) (omega arith) (λ o w.
+      omega (arith, pl .c-p j o l (omega arith))) in
       record {
         rip = refl;
         rsp = rw (h .rsp, z);
         back = rw me (at-read (u .mem) p v (omega arith) (omega arith));
-        held = rw me (holds-ext (ok .fetch) (u .mem) m c code lo (λ j l. write-out 8 (u .mem) p v (at c j) (omega arith) (λ o w. omega (arith, pl .c-p j o l (omega arith)))) (h .held));
+        held = rw me (holds-ext (ok .fetch) (u .mem) m c code lo kept (h .held));
         base = h .slots .base;
         r12 = h .r12;
         r13 = h .r13;
@@ -292,7 +305,7 @@ module _ (undefined : State → Flags) (ok : Permissions) (P : ℕ → Bool) (b 
 
   -- the CALL writes the eight bytes at p
   call-writes : (u : State) → u .regs RSP ≡ p + 8 → writes callRax u ≡ span 8 p
-  unfolding writes
+  unfolding accesses
   call-writes u e = let f : p + 72 ≤ 2 ^ 64 = pl .p-fits in let z : at (p + 8) (2 ^ 64 - 8) ≡ p = omega arith in rw (e, z)
 
   span-p : (Q : ℕ → Bool) → ((i : ℕ) → i < 8 → Q (p + i) ≡ true) → all Q (span 8 p) ≡ true
@@ -300,7 +313,8 @@ module _ (undefined : State → Flags) (ok : Permissions) (P : ℕ → Bool) (b 
       let f : p + 72 ≤ 2 ^ 64 = pl .p-fits in
       all-span Q 8 p (omega arith) (λ i j. let z : at p i ≡ p + i = omega arith in rw z (h i j))
 
-  pub call-step : (pre post : List ℕ) (e u : State) (x : Registers) → code ≡ pre ++ (encode callRax ++ post) → Mid ok b c p code e x (length pre) u → Calls u
+  pub call-step : (pre post : List ℕ) (e u : State) (x : Registers) → code ≡ pre ++ (encode callRax ++ post)
+      → Mid ok b c p code e x (length pre) u → Calls u
   call-step pre post e u x z m =
       let lo : c < 2 ^ 64 = pl .c-low in
       let hh = holds-split (ok .fetch) (u .mem) c pre (encode callRax ++ post) lo (rw z at (m .held)) in
@@ -308,10 +322,11 @@ module _ (undefined : State → Flags) (ok : Permissions) (P : ℕ → Bool) (b 
       let hc = holds-split (ok .fetch) (u .mem) (at c (length pre)) (encode callRax) post ll (hh .1) in
       let hi : Holds (ok .fetch) (u .mem) (u .rip) (encode callRax) = rw (m .rip) (hc .0) in
       let w : writes callRax u ≡ span 8 p = call-writes u (m .rsp) in
+      let wr : all (ok .write) (writes callRax u) ≡ true = rw w (span-p (ok .write) (λ i l. pl .p-write i (omega arith))) in
       record {
         ws = writes callRax u;
         fetch = next-is ok callRax u ok-call hi;
-        does = step-is undefined ok callRax u ok-call hi (unfold reads in nothing (ok .read)) (rw w (span-p (ok .write) (λ i l. pl .p-write i (omega arith))));
+        does = step-is undefined ok callRax u ok-call hi (unfold accesses in nothing (ok .read)) wr;
         own = rw w (span-p P (pl .own-r));
       }
 

@@ -6,7 +6,7 @@ use mathlib.Core.Path.{_∙_, _≡_, ap, refl, subst, sym}
 use Prim.Native.Nat.{_%_, _*_, _+_, _/_, _<_, _^_, suc, ℕ}
 use native.Mathlib.Nat.{mod-eq-of-lt}
 use native.Mathlib.Omega.{arith}
-use lib.Dec.{eqb, eqb→eq}
+use lib.Dec.{eqb, eqb→eq, leb}
 use lib.ListN.{length, length-append}
 use lib.Pow.{low}
 use Rattle.agreement.specs.Common.{Helper, Helper.forAccess, Helper.forHalfword}
@@ -34,9 +34,11 @@ use Rattle.agreement.proofs.Words.Tame.{AllTame, Tame}
 tail-bytes : (xs : List Instr) → bytes (xs ++ (closing ++ ret ∷ [])) ≡ bytes xs ++ (bytes closing ++ encode ret)
 tail-bytes xs =
     bytes-append xs (closing ++ ret ∷ [])
-    ∙ ap (λ (l : List ℕ). bytes xs ++ l) (bytes-append closing (ret ∷ []) ∙ ap (λ (l : List ℕ). bytes closing ++ l) (append-nil (encode ret)))
+    ∙ ap (λ (l : List ℕ). bytes xs ++ l) (bytes-append closing (ret ∷ [])
+    ∙ ap (λ (l : List ℕ). bytes closing ++ l) (append-nil (encode ret)))
 
-goesOn-bytes : (h1 h2 pc n : ℕ) → bytes (ending h1 h2 (goesOn pc) n) ≡ bytes (movImm64 RAX pc ∷ movImm64 RDX n ∷ []) ++ (bytes closing ++ encode ret)
+goesOn-bytes : (h1 h2 pc n : ℕ)
+    → bytes (ending h1 h2 (goesOn pc) n) ≡ bytes (movImm64 RAX pc ∷ movImm64 RDX n ∷ []) ++ (bytes closing ++ encode ret)
 unfolding ending
 goesOn-bytes h1 h2 pc n = tail-bytes (movImm64 RAX pc ∷ movImm64 RDX n ∷ [])
 
@@ -108,19 +110,24 @@ record Added (n : ℕ) (s t : State) : Type 0 where
   rbx : t .regs RBX ≡ s .regs RBX
   same : t .mem ≡ s .mem
 
-added : (undefined : State → Flags) (n : ℕ) (s : State) → n < 2 ^ 31 → s .regs RDX < 2 ^ 64 → Fit (addCount n) × Added n s (run undefined (addCount n) s)
+added : (undefined : State → Flags) (n : ℕ) (s : State) → n < 2 ^ 31 → s .regs RDX < 2 ^ 64
+    → Fit (addCount n) × Added n s (run undefined (addCount n) s)
 unfolding run one past exec aluValue sext Fine Ok AllTame Tame
 added undefined n s l h = go (eqb n 0) refl
   where
-    go : (z : Bool) → eqb n 0 ≡ z → Fit (cond z [] (aluImm32 add RDX n ∷ [])) × Added n s (run undefined (cond z [] (aluImm32 add RDX n ∷ [])) s)
+    go : (z : Bool) → eqb n 0 ≡ z
+        → Fit (cond z [] (aluImm32 add RDX n ∷ [])) × Added n s (run undefined (cond z [] (aluImm32 add RDX n ∷ [])) s)
     go true e =
         let z : n ≡ 0 = eqb→eq n 0 (of-true (eqb n 0) e) in
         (fit-nil, record { rax = refl; rdx = omega arith; rbx = refl; same = refl })
-    go false e = (omega arith, record { rax = refl; rdx = rw (leb-no (2 ^ 32 / 2) n (omega arith)) (rw (mod-eq-of-lt h)); rbx = refl; same = refl })
+    go false e =
+        let l′ : leb (2 ^ 32 / 2) n ≡ false = leb-no (2 ^ 32 / 2) n (omega arith) in
+        (omega arith, record { rax = refl; rdx = rw l′ (rw (mod-eq-of-lt h)); rbx = refl; same = refl })
 
 -- 3. The block of a walk
 
-module _ (undefined : State → Flags) (ok : Permissions) (P : ℕ → Bool) (b c p h1 h2 : ℕ) (part : Walked) (pl : Place ok P b c p (bytes (instrs h1 h2 part))) where
+module _ (undefined : State → Flags) (ok : Permissions) (P : ℕ → Bool) (b c p h1 h2 : ℕ) (part : Walked)
+    (pl : Place ok P b c p (bytes (instrs h1 h2 part))) where
   abbrev code : List ℕ
   code = bytes (instrs h1 h2 part)
 
@@ -137,7 +144,9 @@ module _ (undefined : State → Flags) (ok : Permissions) (P : ℕ → Bool) (b 
       ∙ ap (λ (l : List ℕ). bytes opening ++ l) (bytes-append (part .code) (tail (part .end)))
 
   shape : (e : End) → part .end ≡ e → code ≡ pre ++ bytes (tail e)
-  shape e q = whole ∙ sym (append-assoc (bytes opening) (bytes (part .code)) (bytes (tail (part .end)))) ∙ ap (λ (e : End). pre ++ bytes (tail e)) q
+  shape e q =
+      whole ∙ sym (append-assoc (bytes opening) (bytes (part .code)) (bytes (tail (part .end))))
+      ∙ ap (λ (e : End). pre ++ bytes (tail e)) q
 
   count : (e : End) → part .end ≡ e → length (instrs h1 h2 part) ≡ 13 + (length (part .code) + length (tail e))
   unfolding instrs
@@ -157,7 +166,8 @@ module _ (undefined : State → Flags) (ok : Permissions) (P : ℕ → Bool) (b 
       let e = begin undefined ok P b c p code pl x (bytes (part .code) ++ bytes (tail (part .end))) s whole h in
       let s0 : State = run undefined opening s in
       let a : Agree undefined b (pl .b-fits) part q s0 = f s0 (e .1 .slots) in
-      let w = go-on undefined ok P b c p code pl (part .code) (bytes opening) (bytes (tail (part .end))) s s0 x (q .registers) whole (a .fit) (e .1) (a .slots) in
+      let w = go-on undefined ok P b c p code pl (part .code) (bytes opening) (bytes (tail (part .end))) s s0 x (q .registers)
+      whole (a .fit) (e .1) (a .slots) in
       record {
         t = run undefined (part .code) s0;
         way = way-append undefined ok P s s0 _ 13 (length (part .code)) (e .0) (w .0);
@@ -195,7 +205,8 @@ module _ (undefined : State → Flags) (ok : Permissions) (P : ℕ → Bool) (b 
         u = l .u;
         t = l .t;
         n = 13 + length (part .code) + (length is + 7);
-        way = way-append undefined ok P s t (l .u) (13 + length (part .code)) (length is + 7) (f .way) (way-append undefined ok P t v (l .u) (length is) 7 (w .0) (l .way));
+        way = way-append undefined ok P s t (l .u) (13 + length (part .code)) (length is + 7) (f .way)
+            (way-append undefined ok P t v (l .u) (length is) 7 (w .0) (l .way));
         fetch = l .fetch;
         does = l .does;
         w = v;
@@ -209,7 +220,8 @@ module _ (undefined : State → Flags) (ok : Permissions) (P : ℕ → Bool) (b 
   next-at : (q : Read) (s : State) (f : Front q s) (e : End) → part .end ≡ e → Next e (q .pc) (q .stop) (f .t)
   next-at q s f e z = subst (λ (y : End). Next y (q .pc) (q .stop) (f .t)) z (f .next)
 
-  pub goesOn-leaves : (pc : ℕ) (x : Registers) (q : Read) (s : State) → part .end ≡ goesOn pc → pc < 2 ^ 64 → part .added < 2 ^ 64 → Entry ok b c p x code s
+  pub goesOn-leaves : (pc : ℕ) (x : Registers) (q : Read) (s : State)
+      → part .end ≡ goesOn pc → pc < 2 ^ 64 → part .added < 2 ^ 64 → Entry ok b c p x code s
       → ((s : State) → Slots b x s → Agree undefined b (pl .b-fits) part q s) → Leaving q s × (q .stop ≡ plain)
   goesOn-leaves pc x q s e lp ln h f =
       let r = front x q s h f in
@@ -279,13 +291,15 @@ module _ (undefined : State → Flags) (ok : Permissions) (P : ℕ → Bool) (b 
   -- behind the CALL: the earlier count, the closing
   returns : (q : Read) (s u v : State) (n : ℕ) (pre2 : List ℕ) (a k : ℕ) → n < 2 ^ 31 → v .regs RDX < 2 ^ 64
       → code ≡ pre2 ++ (encode callRax ++ (bytes (addCount n) ++ (bytes closing ++ encode ret)))
-      → Inside undefined ok P b c p code pl s (q .registers) (length pre2 + 2) a (one undefined callRax u) → Returned c p code (one undefined callRax u) v
+      → Inside undefined ok P b c p code pl s (q .registers) (length pre2 + 2) a (one undefined callRax u)
+      → Returned c p code (one undefined callRax u) v
       → n ≡ q .added → length (instrs h1 h2 part) ≡ 13 + (length (part .code) + (7 + (length (addCount n) + 8)))
       → k ≡ 13 + length (part .code) + 6 → Back q k s v
   returns q s u v n pre2 a k ln lv z ins rt sn cn kk =
       let xv : Registers = λ r. read 8 (v .mem) (b + 8 * r) in
       let end : List ℕ = bytes closing ++ encode ret in
-      let m : Mid ok b c p code s xv (length pre2 + 2) v = came-back undefined ok P b c p code pl (q .registers) (length pre2 + 2) a s (one undefined callRax u) v ins rt in
+      let m : Mid ok b c p code s xv (length pre2 + 2) v =
+      came-back undefined ok P b c p code pl (q .registers) (length pre2 + 2) a s (one undefined callRax u) v ins rt in
       let pre3 : List ℕ = pre2 ++ encode callRax in
       let z3 : code ≡ pre3 ++ (bytes (addCount n) ++ end) = z ∙ sym (append-assoc pre2 (encode callRax) _) in
       let lk : length pre2 + 2 ≡ length pre3 = sym (length-append pre2 (encode callRax) ∙ two) in
@@ -294,7 +308,8 @@ module _ (undefined : State → Flags) (ok : Permissions) (P : ℕ → Bool) (b 
       let w : State = run undefined (addCount n) v in
       let g2 = go-on undefined ok P b c p code pl (addCount n) pre3 end s v xv xv z3 (af .0) m3
       (record { base = af .1 .rbx ∙ m3 .slots .base; slots = λ j l. rw (af .1 .same) }) in
-      let l = leave undefined ok P b c p code pl xv (pre3 ++ bytes (addCount n)) s w (z3 ∙ sym (append-assoc pre3 (bytes (addCount n)) _)) (g2 .1) in
+      let l = leave undefined ok P b c p code pl xv (pre3 ++ bytes (addCount n)) s w
+      (z3 ∙ sym (append-assoc pre3 (bytes (addCount n)) _)) (g2 .1) in
       record {
         u = l .u;
         t = l .t;
@@ -322,11 +337,13 @@ module _ (undefined : State → Flags) (ok : Permissions) (P : ℕ → Bool) (b 
       let a : ℕ = helperAt k h1 h2 in
       let s1 : State = r .t in
       let end : List ℕ = bytes (addCount n) ++ (bytes closing ++ encode ret) in
-      let z : code ≡ pre ++ (bytes (passes i pc a) ++ (encode callRax ++ end)) = shape (calls k i pc) e ∙ ap (λ (l : List ℕ). pre ++ l) (calls-bytes h1 h2 k i pc n) in
+      let z : code ≡ pre ++ (bytes (passes i pc a) ++ (encode callRax ++ end)) =
+      shape (calls k i pc) e ∙ ap (λ (l : List ℕ). pre ++ l) (calls-bytes h1 h2 k i pc n) in
       let nx : (pc ≡ q .pc) × (q .stop ≡ called k i) = stops s1 (next-at q s r (calls k i pc) e) in
       let u : State = run undefined (passes i pc a) s1 in
       let fa : Passed s1 u i pc a = passed undefined i pc a s1 in
-      let w = go-on undefined ok P b c p code pl (passes i pc a) pre (encode callRax ++ end) s s1 (q .registers) (q .registers) z (fit-passes i pc a li lp (low k)) (r .mid)
+      let w = go-on undefined ok P b c p code pl (passes i pc a) pre (encode callRax ++ end) s s1 (q .registers) (q .registers)
+      z (fit-passes i pc a li lp (low k)) (r .mid)
       (record { base = fa .rbx ∙ r .mid .slots .base; slots = λ j l. rw (fa .same) (r .mid .slots .slots j l) }) in
       let pre2 : List ℕ = pre ++ bytes (passes i pc a) in
       let z2 : code ≡ pre2 ++ (encode callRax ++ end) = z ∙ sym (append-assoc pre (bytes (passes i pc a)) _) in
@@ -344,7 +361,8 @@ module _ (undefined : State → Flags) (ok : Permissions) (P : ℕ → Bool) (b 
           rdx = fa .rdx ∙ r .mid .r14;
           rsp = w .1 .rsp;
           target = ca .rip ∙ fa .rax;
-          back = λ v rt lv. returns q s u v n pre2 (u .regs RAX) (13 + length (part .code) + 6) ln lv z2 ca rt (r .same) (count (calls k i pc) e ∙ rw (calls-length h1 h2 k i pc n)) (omega arith);
+          back = λ v rt lv. returns q s u v n pre2 (u .regs RAX) (13 + length (part .code) + 6) ln lv z2 ca rt (r .same)
+              (count (calls k i pc) e ∙ rw (calls-length h1 h2 k i pc n)) (omega arith);
         },
         nx .1,
       )

@@ -5,20 +5,20 @@ use mathlib.Core.Option.{Option, none, some}
 use mathlib.Core.Path.{_≡_, refl}
 use Prim.Native.Nat.{ℕ}
 use lib.ListN.{length}
-use Rattle.agreement.specs.Cases.{words}
-use Rattle.agreement.specs.Example.{leaves, plainTurn, range, zeros}
 use Rattle.agreement.specs.Translation.Replies.{walked}
 use Rattle.agreement.specs.Translation.Walk.{instrs}
 use Rattle.agreement.specs.Turns.Machine.{enter}
 use Rattle.agreement.specs.X86.Decode.{aluOf, ccOf, decode, imm, loaded, memory, modrm, moved, onReg, only, opcode0F, opcode1, pick, shiftOf, sib, widthOf}
 use Rattle.agreement.specs.X86.Encode.{bytes}
-use Rattle.agreement.specs.X86.Execute.{exec, reads, writes}
+use Rattle.agreement.specs.X86.Execute.{accesses, exec}
 use Rattle.agreement.specs.X86.Flags.{addFlags, aluFlags, aluValue, evenOnes, holds, logicFlags, ones, sext, subFlags}
 use Rattle.agreement.specs.X86.Form.{RAX, RDX, RSP}
 use Rattle.agreement.specs.X86.Memory.{nth, overlay, put, read, span, write}
-use Rattle.agreement.specs.X86.State.{State}
+use Rattle.agreement.specs.X86.State.{Permissions, State}
 use Rattle.agreement.specs.X86.Step.{all, cut, did, fetched, next, past, step, steps}
-use Rattle.agreement.proofs.Checks.Cases.{immediates, translations}
+use Rattle.agreement.proofs.Checks.Cases.{words}
+use Rattle.agreement.proofs.Checks.CasesHold.{immediates, translations}
+use Rattle.agreement.proofs.Checks.Example.{leaves, plainTurn, range, zeros}
 use Rattle.agreement.proofs.Host.Fetching.{fetch}
 
 abbrev code : List ℕ
@@ -31,16 +31,21 @@ summary (some a) = (a .0 .regs RAX, a .0 .regs RDX, a .0 .regs RSP, read 8 (a .0
 
 unfoldable the-model : Unit {0}
 unfolding
-    steps step next cut did fetched all past reads writes exec aluValue aluFlags addFlags subFlags logicFlags evenOnes ones sext holds
-    enter overlay nth put read write span decode opcode1 opcode0F pick only imm modrm memory sib aluOf shiftOf ccOf onReg moved loaded widthOf
+    steps step next cut did fetched all past accesses exec aluValue aluFlags addFlags subFlags logicFlags evenOnes ones sext holds
+    enter overlay nth put read write span decode opcode1 opcode0F pick only imm modrm memory sib
+    aluOf shiftOf ccOf onReg moved loaded widthOf
 the-model = tt
 
 -- 32 steps: x1 is 0, so x2 becomes 1 and the branch is taken; 48 bytes of stack and the 8 of slot x2 are written
-executed : summary (steps (plainTurn .undefined) (plainTurn .ok) 32 (enter plainTurn code zeros)) ≡ (0x80000024, 2, 0x30010, 1, 56)
+executed : summary (steps (plainTurn .undefined) (plainTurn .ok) 32 (enter plainTurn code zeros))
+    ≡ (0x80000024, 2, 0x30010, 1, 56)
 unfolding the-model translations immediates words range leaves
 executed = refl
 
 -- a step that may not write where it would has none: the first push, when only reading is permitted
-refused-write : step (plainTurn .undefined) (record { fetch = λ x. true; read = λ x. true; write = λ x. false }) (enter plainTurn code zeros) ≡ none
+abbrev read-only : Permissions
+read-only = record { fetch = λ x. true; read = λ x. true; write = λ x. false }
+
+refused-write : step (plainTurn .undefined) read-only (enter plainTurn code zeros) ≡ none
 unfolding the-model translations immediates words
 refused-write = refl

@@ -1,11 +1,11 @@
 -- Blocks of 67 and of 2,243 bytes: a fence, and sixty-four times SLLW.
 use mathlib.Core.List.{[], _∷_}
 use mathlib.Core.Path.{refl}
-use Rattle.agreement.specs.Cases.{copies, words}
+use Rattle.agreement.proofs.Checks.Cases.{copies, words}
 use Rattle.agreement.specs.Laws.{BothReached, Reaches}
 use Rattle.agreement.specs.Translation.Replies.{blockOf, walked}
 use Rattle.agreement.specs.X86.Execute.{result}
-use Rattle.agreement.proofs.Checks.Cases.{translations}
+use Rattle.agreement.proofs.Checks.CasesHold.{translations}
 
 the-least : Reaches 67
 unfolding translations words

@@ -7,9 +7,7 @@ use Prim.Native.Nat.{_%_, _*_, _+_, _<_, _^_, _≤_, ℕ}
 use native.Mathlib.Omega.{arith}
 use lib.Dec.{eqb}
 use lib.ListN.{length}
-use Rattle.agreement.specs.Cases.{words}
 use Rattle.agreement.specs.Common.{Helper.forAccess, Helper.forHalfword}
-use Rattle.agreement.specs.Example.{firstPc, fiveTurns, halfwordTurn, helperTurn, leaves, plainTurn, range, refusedTurn, threeTurns, turnOf, zeros}
 use Rattle.agreement.specs.Laws.{Lengths}
 use Rattle.agreement.specs.Riscv.Instruction.{branches, find, findIn, threeIs, topIs, valueOpImm}
 use Rattle.agreement.specs.Riscv.Run.{GuestState, Registers, Stop.called, Stop.plain, does, firstRefused, isLong, isNotTaken, manual, reading, refused, taken, turn, writeX}
@@ -21,6 +19,8 @@ use Rattle.agreement.specs.X86.Form.{RDX}
 use Rattle.agreement.specs.X86.Memory.{Memory, at, read, write}
 use Rattle.agreement.specs.X86.State.{State}
 use Rattle.agreement.proofs.Block.Frame.{frame}
+use Rattle.agreement.proofs.Checks.Cases.{words}
+use Rattle.agreement.proofs.Checks.Example.{firstPc, fiveTurns, halfwordTurn, helperTurn, leaves, plainTurn, range, refusedTurn, threeTurns, turnOf, zeros}
 use Rattle.agreement.proofs.Host.Memory.{read-other, read-write, write-out}
 use Rattle.agreement.proofs.Laws.Length.{lengths}
 use Rattle.agreement.proofs.Turns.Agreement.{agreement}
@@ -107,7 +107,8 @@ no-longer t pc b e = by lengths
     by : Lengths → length (b .code) ≤ 2243
     by h = unfold Lengths in h pc (t .limit) (t .halfwords) (t .helper16) (t .helperMem) (length (t .output)) b e .1
 
-turnOf-meets : (hs : List ℕ) (r v rax rdx : ℕ) → Halfwords hs → r < 32 → rax < 2 ^ 64 → rdx < 2 ^ 64 → Meets (turnOf hs (leaves r v rax rdx))
+turnOf-meets : (hs : List ℕ) (r v rax rdx : ℕ) → Halfwords hs → r < 32 → rax < 2 ^ 64 → rdx < 2 ^ 64
+    → Meets (turnOf hs (leaves r v rax rdx))
 unfolding Meets
 turnOf-meets hs r v rax rdx l lr la ld = (
   record { halfwords = l; helper16 = omega arith; helperMem = omega arith; others = five-lt },
@@ -130,10 +131,14 @@ refused-meets = (
 )
 
 helper-meets : Meets helperTurn
-helper-meets = turnOf-meets (words (0x00500093 ∷ 0x0000B083 ∷ [])) 1 7 0x80000010 3 (unfold words Halfwords in omega arith) (omega arith) (omega arith) (omega arith)
+helper-meets =
+    turnOf-meets (words (0x00500093 ∷ 0x0000B083 ∷ [])) 1 7 0x80000010 3
+    (unfold words Halfwords in omega arith) (omega arith) (omega arith) (omega arith)
 
 plain-meets : Meets plainTurn
-plain-meets = turnOf-meets (words (0x00108113 ∷ 0x00209863 ∷ [])) 1 0 0 0 (unfold words Halfwords in omega arith) (omega arith) (omega arith) (omega arith)
+plain-meets =
+    turnOf-meets (words (0x00108113 ∷ 0x00209863 ∷ [])) 1 0 0 0
+    (unfold words Halfwords in omega arith) (omega arith) (omega arith) (omega arith)
 
 halfword-meets : Meets halfwordTurn
 halfword-meets = turnOf-meets (0x4501 ∷ []) 10 9 0x80000031 1 (unfold Halfwords in omega arith) (omega arith) (omega arith) (omega arith)
@@ -157,7 +162,8 @@ five = applied fiveTurns (unfold AllMeet in (refused-meets, (helper-meets, (plai
 abbrev m0 : GuestState
 m0 = start firstPc zeros
 
-along-cons : (m : GuestState) (t : Turn) (ts : List Turn) (e : Event) (es : List Event) → Along m (t ∷ ts) (e ∷ es) → At m t e × Along (turn (feed t e) m) ts es
+along-cons : (m : GuestState) (t : Turn) (ts : List Turn) (e : Event) (es : List Event)
+    → Along m (t ∷ ts) (e ∷ es) → At m t e × Along (turn (feed t e) m) ts es
 unfolding Along
 along-cons m t ts e es a = a
 
@@ -271,7 +277,15 @@ two-turns : {pc pc′ : ℕ} {rb rb′ : RegisterBytes} {e1 : Event} (e0 : Event
 two-turns {e1 = e1} e0 a0 h1 a1 =
     let z : turn (feed refusedTurn e0) m0 ≡ m0 = after-refused m0 refusedTurn e0 first-refused a0 in
     let k : Helping m0 helperTurn e1 = after-helper m0 forAccess 0x0000B083 second-taken second-calls h1 (rw z at a1) in
-    record { inside = k .inside; pc = k .pc; n = k .n; v = k .v; event = k .event; rdx = k .rdx ∙ four (k .inside); state = rw z (k .turned) }
+    record {
+      inside = k .inside;
+      pc = k .pc;
+      n = k .n;
+      v = k .v;
+      event = k .event;
+      rdx = k .rdx ∙ four (k .inside);
+      state = rw z (k .turned);
+    }
   where
     four : (a : State) → (helperTurn .helper a .regs RDX + readAs helperTurn m0 .added) % 2 ^ 64 ≡ 4
     four a = unfold reads-a-turn in refl
@@ -291,14 +305,16 @@ pub record Three (es : List Event) : Type 0 where
   pub two : Two e0 e1
   pub after : AfterThree (manual (feeds threeTurns es) m0)
 
-three-turns : {pc′ : ℕ} {rb′ : RegisterBytes} {es : List Event} → History firstPc zeros threeTurns es pc′ rb′ → Along m0 threeTurns es → Three es
+three-turns : {pc′ : ℕ} {rb′ : RegisterBytes} {es : List Event}
+    → History firstPc zeros threeTurns es pc′ rb′ → Along m0 threeTurns es → Three es
 unfolding manual feeds
 three-turns (then {e = e0} h0 (then {e = e1} h1 (then {e = e2} h2 end))) al =
     let c0 = along-cons m0 refusedTurn (helperTurn ∷ plainTurn ∷ []) e0 (e1 ∷ e2 ∷ []) al in
     let c1 = along-cons (turn (feed refusedTurn e0) m0) helperTurn (plainTurn ∷ []) e1 (e2 ∷ []) (c0 .1) in
     let c2 = along-cons (turn (feed helperTurn e1) (turn (feed refusedTurn e0) m0)) plainTurn [] e2 [] (c1 .1) in
     let w : Two e0 e1 = two-turns e0 (c0 .0) h1 (c1 .0) in
-    let z : turn (feed plainTurn e2) (turn (feed helperTurn e1) (turn (feed refusedTurn e0) m0)) ≡ m3 (w .inside) = third-turn e2 _ (w .inside) (w .state) (c2 .0) in
+    let s2 : GuestState = turn (feed helperTurn e1) (turn (feed refusedTurn e0) m0) in
+    let z : turn (feed plainTurn e2) s2 ≡ m3 (w .inside) = third-turn e2 s2 (w .inside) (w .state) (c2 .0) in
     record { e0 = e0; e1 = e1; rest = e2 ∷ []; events = refl; two = w; after = rw z (after-three (w .inside)) }
 
 pub after-three-turns : Three (three .events)
@@ -316,7 +332,8 @@ after-five a = record { pc = odd a; x10 = x10-is a; count = refl }
     odd : (a : State) → afterHelper halfwordTurn a .pc ≡ 0x80000031
     odd a = unfold leaves in refl
 
-five-turns : {pc′ : ℕ} {rb′ : RegisterBytes} {es : List Event} → History firstPc zeros fiveTurns es pc′ rb′ → Along m0 fiveTurns es → Five (manual (feeds fiveTurns es) m0)
+five-turns : {pc′ : ℕ} {rb′ : RegisterBytes} {es : List Event}
+    → History firstPc zeros fiveTurns es pc′ rb′ → Along m0 fiveTurns es → Five (manual (feeds fiveTurns es) m0)
 unfolding manual feeds
 five-turns (then {e = e0} h0 (then {e = e1} h1 (then {e = e2} h2 (then {e = e3} h3 (then {e = e4} h4 end))))) al =
     let s1 : GuestState = turn (feed refusedTurn e0) m0 in

@@ -1,5 +1,5 @@
 -- decoding what the encoder writes
-use mathlib.Core.Bool.{cond, false, true}
+use mathlib.Core.Bool.{false, true}
 use mathlib.Core.List.{List, _++_, _∷_, append-assoc}
 use mathlib.Core.Option.{some}
 use mathlib.Core.Path.{_∙_, _≡_, refl}
@@ -29,7 +29,8 @@ imm-le (suc n) v rest k h =
     let e : v % 256 + 256 * (v / 256) ≡ v = omega arith in
     rw (imm-le n (v / 256) rest (λ u r. k (v % 256 + 256 * u) r) f, e)
 
-modrm-reg : (r b : ℕ) (rest : List ℕ) (k : Operand → ℕ → List ℕ → Answer) → r < 16 → b < 16 → modrm (r / 8) (b / 8) (modReg r b ∷ rest) k ≡ k (reg b) r rest
+modrm-reg : (r b : ℕ) (rest : List ℕ) (k : Operand → ℕ → List ℕ → Answer)
+    → r < 16 → b < 16 → modrm (r / 8) (b / 8) (modReg r b ∷ rest) k ≡ k (reg b) r rest
 unfolding modrm modReg pick
 modrm-reg r b rest k h l =
     let m : ℕ = 192 + 8 * (r % 8) + b % 8 in
@@ -39,14 +40,16 @@ modrm-reg r b rest k h l =
     let g : 8 * (r / 8) + (24 + r % 8) % 8 ≡ r = omega arith in
     rw e (rw (f, q, g))
 
-modrm-digit : (r b : ℕ) (rest : List ℕ) (k : Operand → ℕ → List ℕ → Answer) → r < 8 → b < 16 → modrm 0 (b / 8) (modReg r b ∷ rest) k ≡ k (reg b) r rest
+modrm-digit : (r b : ℕ) (rest : List ℕ) (k : Operand → ℕ → List ℕ → Answer)
+    → r < 8 → b < 16 → modrm 0 (b / 8) (modReg r b ∷ rest) k ≡ k (reg b) r rest
 modrm-digit r b rest k h l = let e : r / 8 ≡ 0 = omega arith in rw e at (modrm-reg r b rest k (omega arith) l)
 
-modrm-mem : (r b d : ℕ) (rest : List ℕ) (k : Operand → ℕ → List ℕ → Answer) → r < 16 → b < 16 → d < 2 ^ 32 → modrm (r / 8) (b / 8) (modMem r b d ++ rest) k ≡ k (mem b d) r rest
+modrm-mem : (r b d : ℕ) (rest : List ℕ) (k : Operand → ℕ → List ℕ → Answer)
+    → r < 16 → b < 16 → d < 2 ^ 32 → modrm (r / 8) (b / 8) (modMem r b d ++ rest) k ≡ k (mem b d) r rest
 unfolding modrm modMem memory sib pick only
 modrm-mem r b d rest k h l n = go (ℕ-discrete (b % 8) 4)
   where
-    go : Dec (b % 8 ≡ 4) → modrm (r / 8) (b / 8) (cond (eqb (b % 8) 4) ((128 + 8 * (r % 8) + 4) ∷ (32 + b % 8) ∷ bytesOf 4 d) ((128 + 8 * (r % 8) + b % 8) ∷ bytesOf 4 d) ++ rest) k ≡ k (mem b d) r rest
+    go : Dec (b % 8 ≡ 4) → modrm (r / 8) (b / 8) (modMem r b d ++ rest) k ≡ k (mem b d) r rest
     go (no p) =
         let m : ℕ = 128 + 8 * (r % 8) + b % 8 in
         let t : eqb (b % 8) 4 ≡ false = eqb-no (b % 8) 4 p in
@@ -69,7 +72,8 @@ modrm-mem r b d rest k h l n = go (ℕ-discrete (b % 8) 4)
         let u : 8 * (b / 8) + 4 ≡ b = omega arith in
         rw t (rw (e, e′) (rw (f, q, g) (rw v (rw u (imm-le 4 d rest (λ d r′. k (mem b d) r r′) n)))))
 
-rex-on : (w r b : ℕ) (bs : List ℕ) → w < 2 → r < 16 → b < 16 → 1 ≤ 8 * w + 4 * (r / 8) + b / 8 → decode ((64 + 8 * w + 4 * (r / 8) + b / 8) ∷ bs) ≡ opcode1 w (r / 8) (b / 8) bs
+rex-on : (w r b : ℕ) (bs : List ℕ) → w < 2 → r < 16 → b < 16 → 1 ≤ 8 * w + 4 * (r / 8) + b / 8
+    → decode ((64 + 8 * w + 4 * (r / 8) + b / 8) ∷ bs) ≡ opcode1 w (r / 8) (b / 8) bs
 unfolding decode pick only
 rex-on w r b bs h k l n =
     let c : ℕ = 64 + 8 * w + 4 * (r / 8) + b / 8 in
@@ -81,7 +85,8 @@ rex-on w r b bs h k l n =
     let j : c % 2 ≡ b / 8 = omega arith in
     rw e (rw z (rw i (rw (f, g, j))))
 
-rex-any : (w : Width) (r b o : ℕ) (bs : List ℕ) → r < 16 → b < 16 → eqb (o / 16) 4 ≡ false → decode (rex w r b ++ o ∷ bs) ≡ opcode1 (wide w) (r / 8) (b / 8) (o ∷ bs)
+rex-any : (w : Width) (r b o : ℕ) (bs : List ℕ) → r < 16 → b < 16 → eqb (o / 16) 4 ≡ false
+    → decode (rex w r b ++ o ∷ bs) ≡ opcode1 (wide w) (r / 8) (b / 8) (o ∷ bs)
 unfolding rex
 rex-any r64 r b o bs h k n = rex-on 1 r b (o ∷ bs) (omega arith) h k (omega arith)
 rex-any r32 r b o bs h k n = go (decLe 1 (4 * (r / 8) + b / 8))
@@ -140,7 +145,8 @@ one-byte : (v : ℕ) (rest : List ℕ) (k : ℕ → List ℕ → Answer) → imm
 unfolding imm
 one-byte v rest k = let e : v + 256 * 0 ≡ v = omega arith in rw e
 
-at-alu : (op : Alu) (w r b : ℕ) (bs : List ℕ) → opcode1 w r b ((8 * digit op + 1) ∷ bs) ≡ modrm r b bs (λ p g rest. onReg p (λ d. some (alu (widthOf w) op d g, rest)))
+at-alu : (op : Alu) (w r b : ℕ) (bs : List ℕ)
+    → opcode1 w r b ((8 * digit op + 1) ∷ bs) ≡ modrm r b bs (λ p g rest. onReg p (λ d. some (alu (widthOf w) op d g, rest)))
 unfolding opcode1 aluOf pick only
 at-alu add w r b bs = refl
 at-alu or w r b bs = refl
@@ -157,7 +163,8 @@ no-rex sub = refl
 no-rex xor = refl
 no-rex cmp = refl
 
-at-cmov : (c : Cc) (r b : ℕ) (bs : List ℕ) → opcode1 1 r b (0x0F ∷ (64 + ccNumber c) ∷ bs) ≡ modrm r b bs (λ p g rest. onReg p (λ s. some (cmov c g s, rest)))
+at-cmov : (c : Cc) (r b : ℕ) (bs : List ℕ)
+    → opcode1 1 r b (0x0F ∷ (64 + ccNumber c) ∷ bs) ≡ modrm r b bs (λ p g rest. onReg p (λ s. some (cmov c g s, rest)))
 unfolding opcode1 opcode0F ccOf pick only
 at-cmov B r b bs = refl
 at-cmov AE r b bs = refl
@@ -175,9 +182,6 @@ at-set NE rest = refl
 at-set L rest = refl
 at-set GE rest = refl
 
-low : (c r : ℕ) → r < 16 → 8 * (r / 8) + (8 * c + r % 8) % 8 ≡ r
-low c r h = omega arith
-
 at-push : (r : ℕ) (rest : List ℕ) → r < 16 → opcode1 0 0 (r / 8) ((80 + r % 8) ∷ rest) ≡ some (push r, rest)
 unfolding opcode1 pick only
 at-push r rest h =
@@ -192,7 +196,8 @@ at-pop r rest h =
     let f : 8 * (r / 8) + (88 + r % 8) % 8 ≡ r = omega arith in
     rw d (rw f)
 
-at-movI : (r v : ℕ) (rest : List ℕ) → r < 16 → v < 2 ^ 64 → opcode1 1 0 (r / 8) ((184 + r % 8) ∷ (bytesOf 8 v ++ rest)) ≡ some (movImm64 r v, rest)
+at-movI : (r v : ℕ) (rest : List ℕ) → r < 16 → v < 2 ^ 64
+    → opcode1 1 0 (r / 8) ((184 + r % 8) ∷ (bytesOf 8 v ++ rest)) ≡ some (movImm64 r v, rest)
 unfolding opcode1 pick only
 at-movI r v rest h l =
     let d : (184 + r % 8) / 8 ≡ 23 = omega arith in
@@ -222,15 +227,26 @@ round (movImm64 d v) rest h =
 round (load d b o) rest h = rw append-assoc (rex-any r64 d b _ _ (h .0) (h .1) refl ∙ modrm-mem d b o rest loaded (h .0) (h .1) (h .2))
 round (store b o s) rest h = rw append-assoc (rex-any r64 s b _ _ (h .2) (h .0) refl ∙ modrm-mem s b o rest moved (h .2) (h .0) (h .1))
 round (alu w op d s) rest h =
-    rw append-assoc (rex-any w s d (8 * digit op + 1) _ (h .1) (h .0) (no-rex op) ∙ at-alu op (wide w) (s / 8) (d / 8) (modReg s d ∷ rest) ∙ modrm-reg s d rest _ (h .1) (h .0) ∙ rw width-wide)
-round (aluImm32 op d v) rest h = rw append-assoc (rex-any r64 0 d _ _ (omega arith) (h .0) refl ∙ modrm-digit (digit op) d (bytesOf 4 v ++ rest) _ (digit-lt op) (h .0) ∙ alu-of op _ ∙ imm-le 4 v rest _ (h .1))
-round (aluImm8 op d v) rest h = rw append-assoc (rex-any r64 0 d _ _ (omega arith) (h .0) refl ∙ modrm-digit (digit op) d (v ∷ rest) _ (digit-lt op) (h .0) ∙ alu-of op _ ∙ one-byte v rest _)
-round (shiftCl w op d) rest h = rw append-assoc (rex-any w 0 d _ _ (omega arith) h refl ∙ modrm-digit (shiftDigit op) d rest _ (shiftDigit-lt op) h ∙ sh-of op _ ∙ rw width-wide)
-round (shiftImm8 w op d v) rest h = rw append-assoc (rex-any w 0 d _ _ (omega arith) (h .0) refl ∙ modrm-digit (shiftDigit op) d (v ∷ rest) _ (shiftDigit-lt op) (h .0) ∙ sh-of op _ ∙ one-byte v rest _ ∙ rw width-wide)
+    rw append-assoc (rex-any w s d (8 * digit op + 1) _ (h .1) (h .0) (no-rex op)
+    ∙ at-alu op (wide w) (s / 8) (d / 8) (modReg s d ∷ rest) ∙ modrm-reg s d rest _ (h .1) (h .0) ∙ rw width-wide)
+round (aluImm32 op d v) rest h =
+    rw append-assoc (rex-any r64 0 d _ _ (omega arith) (h .0) refl
+    ∙ modrm-digit (digit op) d (bytesOf 4 v ++ rest) _ (digit-lt op) (h .0) ∙ alu-of op _ ∙ imm-le 4 v rest _ (h .1))
+round (aluImm8 op d v) rest h =
+    rw append-assoc (rex-any r64 0 d _ _ (omega arith) (h .0) refl
+    ∙ modrm-digit (digit op) d (v ∷ rest) _ (digit-lt op) (h .0) ∙ alu-of op _ ∙ one-byte v rest _)
+round (shiftCl w op d) rest h =
+    rw append-assoc (rex-any w 0 d _ _ (omega arith) h refl
+    ∙ modrm-digit (shiftDigit op) d rest _ (shiftDigit-lt op) h ∙ sh-of op _ ∙ rw width-wide)
+round (shiftImm8 w op d v) rest h =
+    rw append-assoc (rex-any w 0 d _ _ (omega arith) (h .0) refl
+    ∙ modrm-digit (shiftDigit op) d (v ∷ rest) _ (shiftDigit-lt op) (h .0) ∙ sh-of op _ ∙ one-byte v rest _ ∙ rw width-wide)
 round (imul w d s) rest h = rw append-assoc (rex-any w d s _ _ (h .0) (h .1) refl ∙ modrm-reg d s rest _ (h .0) (h .1) ∙ rw width-wide)
 round (movsxd d s) rest h = rw append-assoc (rex-any r64 d s _ _ (h .0) (h .1) refl ∙ modrm-reg d s rest _ (h .0) (h .1))
 round (setccAl c) rest h = at-set c rest
 round (movzx d s) rest h = rw append-assoc (rex-any r64 d s _ _ (h .0) (h .1) refl ∙ modrm-reg d s rest _ (h .0) (h .1))
-round (cmov c d s) rest h = rw append-assoc (rex-any r64 d s _ _ (h .0) (h .1) refl ∙ at-cmov c (d / 8) (s / 8) (modReg d s ∷ rest) ∙ modrm-reg d s rest _ (h .0) (h .1))
+round (cmov c d s) rest h =
+    rw append-assoc (rex-any r64 d s _ _ (h .0) (h .1) refl
+    ∙ at-cmov c (d / 8) (s / 8) (modReg d s ∷ rest) ∙ modrm-reg d s rest _ (h .0) (h .1))
 round callRax rest h = at-call rest
 round ret rest h = at-ret rest

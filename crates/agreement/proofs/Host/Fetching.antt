@@ -8,20 +8,21 @@ use native.Mathlib.Omega.{arith}
 use lib.Dec.{eqb}
 use lib.ListN.{length, length-append}
 use Rattle.agreement.specs.X86.Encode.{encode, modMem, rex}
-use Rattle.agreement.specs.X86.Execute.{exec, reads, writes}
+use Rattle.agreement.specs.X86.Execute.{accesses, exec}
 use Rattle.agreement.specs.X86.Form.{Instr, Instr.alu, Instr.aluImm32, Instr.aluImm8, Instr.callRax, Instr.cmov, Instr.imul, Instr.load, Instr.mov, Instr.movImm64, Instr.movsxd, Instr.movzx, Instr.pop, Instr.push, Instr.ret, Instr.setccAl, Instr.shiftCl, Instr.shiftImm8, Instr.store, Ok, Width, Width.r32, Width.r64}
 use Rattle.agreement.specs.X86.Memory.{Memory, at, bytesOf, up}
 use Rattle.agreement.specs.X86.State.{Flags, Permissions, State}
 use Rattle.agreement.specs.X86.Step.{Fetch, all, cut, did, fetched, next, past, step}
 use Rattle.agreement.proofs.Codec.Decoding.{round}
-use Rattle.agreement.proofs.Host.Memory.{len-le}
+use Rattle.agreement.proofs.Host.Memory.{len-le, up-at}
 
 -- the bytes bs stand at a and may be fetched
 unfoldable pub Holds : (ℕ → Bool) → Memory → ℕ → List ℕ → Type 0
 Holds may m a [] = Unit
 Holds may m a (b ∷ bs) = (may a ≡ true) × (m a % 256 ≡ b) × Holds may m (up a) bs
 
-pub holds-split : (may : ℕ → Bool) (m : Memory) (a : ℕ) (xs ys : List ℕ) → a < 2 ^ 64 → Holds may m a (xs ++ ys) → Holds may m a xs × Holds may m (at a (length xs)) ys
+pub holds-split : (may : ℕ → Bool) (m : Memory) (a : ℕ) (xs ys : List ℕ) → a < 2 ^ 64
+    → Holds may m a (xs ++ ys) → Holds may m a xs × Holds may m (at a (length xs)) ys
 unfolding Holds
 holds-split may m a [] ys l h = let e : at a 0 ≡ a = omega arith in (tt, rw e h)
 holds-split may m a (x ∷ xs) ys l h =
@@ -37,7 +38,7 @@ holds-bytes may m m′ a (x ∷ xs) l e h =
     let z : at a 0 ≡ a = omega arith in
     let z′ : m′ a % 256 ≡ m a % 256 = rw z at (e 0 (omega arith)) in
     let rest : Holds may m′ (up a) xs =
-    holds-bytes may m m′ (up a) xs (omega arith) (λ i k. let q : at (up a) i ≡ at a (suc i) = omega arith in rw q (e (suc i) (omega arith))) (h .2) in
+    holds-bytes may m m′ (up a) xs (omega arith) (λ i k. rw (up-at a i l) (e (suc i) (omega arith))) (h .2) in
     (h .0, z′ ∙ h .1, rest)
 
 pub holds-ext : (may : ℕ → Bool) (m m′ : Memory) (a : ℕ) (xs : List ℕ) → a < 2 ^ 64
@@ -45,7 +46,8 @@ pub holds-ext : (may : ℕ → Bool) (m m′ : Memory) (a : ℕ) (xs : List ℕ)
 holds-ext may m m′ a xs l e h = holds-bytes may m m′ a xs l (λ i k. ap (_% 256) (e i k)) h
 
 -- what is fetched begins with them
-fetch-holds : (may : ℕ → Bool) (n : ℕ) (m : Memory) (a : ℕ) (bs : List ℕ) → Holds may m a bs → length bs ≤ n → (W : List ℕ) × (fetched may n m a ≡ bs ++ W)
+fetch-holds : (may : ℕ → Bool) (n : ℕ) (m : Memory) (a : ℕ) (bs : List ℕ)
+    → Holds may m a bs → length bs ≤ n → (W : List ℕ) × (fetched may n m a ≡ bs ++ W)
 unfolding Holds fetched
 fetch-holds may n m a [] h k = (fetched may n m a, refl)
 fetch-holds may zero m a (b ∷ bs) h k = absurd (omega arith)
@@ -94,7 +96,8 @@ short ret = omega arith
 abbrev pub fetch : Instr → Fetch
 fetch i = record { instr = i; size = length (encode i) }
 
-pub next-is : (ok : Permissions) (i : Instr) (s : State) → Ok i → Holds (ok .fetch) (s .mem) (s .rip) (encode i) → next ok s ≡ some (fetch i)
+pub next-is : (ok : Permissions) (i : Instr) (s : State) → Ok i
+    → Holds (ok .fetch) (s .mem) (s .rip) (encode i) → next ok s ≡ some (fetch i)
 unfolding next cut
 next-is ok i s o h =
     let r = fetch-holds (ok .fetch) 15 (s .mem) (s .rip) (encode i) h (short i) in
@@ -105,7 +108,14 @@ next-is ok i s o h =
 unfoldable pub one : (State → Flags) → Instr → State → State
 one undefined i s = exec undefined i (past (length (encode i)) s)
 
+abbrev pub reads : Instr → State → List ℕ
+reads i s = accesses i s .read
+
+abbrev pub writes : Instr → State → List ℕ
+writes i s = accesses i s .written
+
 pub step-is : (undefined : State → Flags) (ok : Permissions) (i : Instr) (s : State)
-    → Ok i → Holds (ok .fetch) (s .mem) (s .rip) (encode i) → all (ok .read) (reads i s) ≡ true → all (ok .write) (writes i s) ≡ true → step undefined ok s ≡ some (one undefined i s, writes i s)
+    → Ok i → Holds (ok .fetch) (s .mem) (s .rip) (encode i) → all (ok .read) (reads i s) ≡ true
+    → all (ok .write) (writes i s) ≡ true → step undefined ok s ≡ some (one undefined i s, writes i s)
 unfolding step did one
 step-is undefined ok i s o h r w = rw (next-is ok i s o h) (rw (r, did) (rw w))

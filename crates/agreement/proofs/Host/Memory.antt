@@ -25,6 +25,9 @@ write-out (suc n) m a v x f h =
     let k : x ≢ a = λ e. h 0 (omega arith) (omega arith) in
     rw (put-other _ a _ x k) (write-out n m (up a) (v / 256) x (omega arith) (λ i l e. h (suc i) (omega arith) (omega arith)))
 
+pub up-at : (a i : ℕ) → a < 2 ^ 64 → at (up a) i ≡ at a (suc i)
+up-at a i h = omega arith
+
 -- equal bytes read equal
 pub read-bytes : (n : ℕ) (m m′ : Memory) (a : ℕ) → a < 2 ^ 64
     → ((i : ℕ) → i < n → m (at a i) % 256 ≡ m′ (at a i) % 256) → read n m a ≡ read n m′ a
@@ -34,7 +37,7 @@ read-bytes (suc n) m m′ a b h =
     let e : at a 0 ≡ a = omega arith in
     let h0 : m a % 256 ≡ m′ a % 256 = rw e at (h 0 (omega arith)) in
     let r : read n m (up a) ≡ read n m′ (up a) =
-    read-bytes n m m′ (up a) (omega arith) (λ i l. let q : at (up a) i ≡ at a (suc i) = omega arith in rw q (h (suc i) (omega arith))) in
+    read-bytes n m m′ (up a) (omega arith) (λ i l. rw (up-at a i b) (h (suc i) (omega arith))) in
     rw (h0, r)
 
 pub read-ext : (n : ℕ) (m m′ : Memory) (a : ℕ) → a < 2 ^ 64 → ((i : ℕ) → i < n → m (at a i) ≡ m′ (at a i)) → read n m a ≡ read n m′ a
@@ -67,7 +70,8 @@ read-write (suc n) m a v b h =
     rw (p, q, r) (let z : v % 256 % 256 ≡ v % 256 = omega arith in rw z (step-le n v))
 
 -- a disjoint read
-pub read-other : (n k : ℕ) (m : Memory) (a v x : ℕ) → a < 2 ^ 64 → x < 2 ^ 64 → ((i j : ℕ) → i < k → j < n → at x i ≢ at a j) → read k (write n m a v) x ≡ read k m x
+pub read-other : (n k : ℕ) (m : Memory) (a v x : ℕ) → a < 2 ^ 64 → x < 2 ^ 64
+    → ((i j : ℕ) → i < k → j < n → at x i ≢ at a j) → read k (write n m a v) x ≡ read k m x
 read-other n k m a v x b c h = read-ext k (write n m a v) m x c (λ i l. write-out n m a v (at x i) b (λ j l′. h i j l l′))
 
 pub len-le : (n v : ℕ) → length (bytesOf n v) ≡ n
@@ -78,5 +82,6 @@ len-le (suc n) v = ap suc (len-le n (v / 256))
 pub slot-same : (b r v : ℕ) (m : Memory) → b + 256 ≤ 2 ^ 64 → r < 32 → v < 2 ^ 64 → read 8 (write 8 m (b + 8 * r) v) (b + 8 * r) ≡ v
 slot-same b r v m f l h = rw (read-write 8 m (b + 8 * r) v (omega arith) (omega arith)) (omega arith)
 
-pub slot-other : (b r q v : ℕ) (m : Memory) → b + 256 ≤ 2 ^ 64 → r < 32 → q < 32 → q ≢ r → read 8 (write 8 m (b + 8 * r) v) (b + 8 * q) ≡ read 8 m (b + 8 * q)
+pub slot-other : (b r q v : ℕ) (m : Memory) → b + 256 ≤ 2 ^ 64 → r < 32 → q < 32 → q ≢ r
+    → read 8 (write 8 m (b + 8 * r) v) (b + 8 * q) ≡ read 8 m (b + 8 * q)
 slot-other b r q v m f l k n = read-other 8 8 m (b + 8 * r) v (b + 8 * q) (omega arith) (omega arith) (λ i j h h′. omega arith)

@@ -11,7 +11,7 @@ goes-steps : (undefined : State → Flags) (ok : Permissions) {s t : State} {n :
     → Goes undefined ok s n ws t → steps undefined ok n s ≡ some (t, ws)
 unfolding steps
 goes-steps undefined ok done = refl
-goes-steps undefined ok (more e f g p) = rw (g, goes-steps undefined ok p)
+goes-steps undefined ok (more e c r g p) = rw (g, goes-steps undefined ok p)
 
 pub steps-alike : StepsAlike
 unfolding StepsAlike

@@ -1,22 +1,50 @@
--- running a list of straight instructions
+-- Running a list of straight instructions, and what the log of a run says.
 use mathlib.Core.Bool.{Bool, false, true}
 use mathlib.Core.List.{List, [], _++_, _∷_, append-assoc}
+use mathlib.Core.Logic.{_≢_}
 use mathlib.Core.Option.{Option, none, some}
-use mathlib.Core.Path.{_∙_, _≡_, ap, refl, sym}
+use mathlib.Core.Path.{_∙_, _≡_, ap, refl, subst, sym}
 use Prim.Native.Nat.{_+_, _<_, _^_, suc, zero, ℕ}
 use native.Mathlib.Omega.{arith}
 use lib.Dec.{T}
 use lib.ListN.{length, length-append}
 use lib.Pow.{low}
+use Rattle.agreement.specs.Turns.Agreement.{after}
 use Rattle.agreement.specs.X86.Encode.{bytes, encode}
-use Rattle.agreement.specs.X86.Execute.{below, exec, operand, reads, writes}
+use Rattle.agreement.specs.X86.Execute.{accesses, below, exec, operand}
 use Rattle.agreement.specs.X86.Form.{Instr, Instr.alu, Instr.aluImm32, Instr.aluImm8, Instr.callRax, Instr.cmov, Instr.imul, Instr.load, Instr.mov, Instr.movImm64, Instr.movsxd, Instr.movzx, Instr.pop, Instr.push, Instr.ret, Instr.setccAl, Instr.shiftCl, Instr.shiftImm8, Instr.store, Ok}
 use Rattle.agreement.specs.X86.Memory.{Memory, at, span, up, write}
 use Rattle.agreement.specs.X86.State.{Flags, Permissions, State}
-use Rattle.agreement.specs.X86.Step.{Fetch, Goes, Goes.done, Goes.more, all, did, next, past, step, straight}
-use Rattle.agreement.proofs.Host.Fetching.{Holds, holds-ext, holds-split, next-is, one, step-is}
-use Rattle.agreement.proofs.Host.Memory.{write-out}
-use Rattle.agreement.proofs.Laws.Tests.{yes-is}
+use Rattle.agreement.specs.X86.Step.{Fetch, Goes, Goes.done, Goes.more, all, did, next, past, step}
+use Rattle.agreement.proofs.Host.Fetching.{Holds, holds-ext, holds-split, next-is, one, reads, step-is, writes}
+use Rattle.agreement.proofs.Host.Memory.{up-at, write-out}
+
+-- an instruction that goes on to the one behind it: all but CALL and RET
+abbrev pub straight : Instr → Bool
+straight (push r) = true
+straight (pop r) = true
+straight (mov d s) = true
+straight (movImm64 d v) = true
+straight (load d b o) = true
+straight (store b o s) = true
+straight (alu w op d s) = true
+straight (aluImm32 op d v) = true
+straight (aluImm8 op d v) = true
+straight (shiftCl w op d) = true
+straight (shiftImm8 w op d v) = true
+straight (imul w d s) = true
+straight (movsxd d s) = true
+straight (setccAl c) = true
+straight (movzx d s) = true
+straight (cmov c d s) = true
+straight callRax = false
+straight ret = false
+
+not-call : (i : Instr) → T (straight i) → i ≢ callRax
+not-call i t e = subst (λ (x : Instr). T (straight x)) e t
+
+not-ret : (i : Instr) → T (straight i) → i ≢ ret
+not-ret i t e = subst (λ (x : Instr). T (straight x)) e t
 
 exec-rip : (undefined : State → Flags) (i : Instr) (s : State) → T (straight i) → exec undefined i s .rip ≡ s .rip
 unfolding exec
@@ -43,7 +71,8 @@ unfoldable pub run : (State → Flags) → List Instr → State → State
 run undefined [] s = s
 run undefined (i ∷ is) s = run undefined is (one undefined i s)
 
-pub run-append : (undefined : State → Flags) (xs ys : List Instr) (s : State) → run undefined (xs ++ ys) s ≡ run undefined ys (run undefined xs s)
+pub run-append : (undefined : State → Flags) (xs ys : List Instr) (s : State)
+    → run undefined (xs ++ ys) s ≡ run undefined ys (run undefined xs s)
 unfolding run
 run-append undefined [] ys s = refl
 run-append undefined (x ∷ xs) ys s = run-append undefined xs ys (one undefined x s)
@@ -65,18 +94,23 @@ Kept c n m m′ = (i : ℕ) → i < n → m′ (at c i) ≡ m (at c i)
 -- every access is allowed, and none of the n bytes at c is written
 unfoldable pub Safe : (State → Flags) → Permissions → ℕ → ℕ → List Instr → State → Type 0
 Safe undefined ok c n [] s = Unit
-Safe undefined ok c n (i ∷ is) s = (all (ok .read) (reads i s) ≡ true) × (all (ok .write) (writes i s) ≡ true) × Kept c n (s .mem) (one undefined i s .mem) × Safe undefined ok c n is (one undefined i s)
+Safe undefined ok c n (i ∷ is) s =
+    (all (ok .read) (reads i s) ≡ true) × (all (ok .write) (writes i s) ≡ true)
+    × Kept c n (s .mem) (one undefined i s .mem) × Safe undefined ok c n is (one undefined i s)
 
 pub record Ran (undefined : State → Flags) (ok : Permissions) (c : ℕ) (code : List ℕ) (is : List Instr) (e : ℕ) (s t : State) : Type 0 where
   pub reached : Goes undefined ok s (length is) (trace undefined is s) t
   pub there : t .rip ≡ at c e
   pub held : Holds (ok .fetch) (t .mem) c code
 
-pub ran : (undefined : State → Flags) (ok : Permissions) (c : ℕ) (code : List ℕ) (is : List Instr) (pre post : List ℕ) (s : State) → code ≡ pre ++ (bytes is ++ post) → c < 2 ^ 64 → Fine is
+pub ran : (undefined : State → Flags) (ok : Permissions) (c : ℕ) (code : List ℕ) (is : List Instr) (pre post : List ℕ) (s : State)
+    → code ≡ pre ++ (bytes is ++ post) → c < 2 ^ 64 → Fine is
     → Safe undefined ok c (length code) is s → Holds (ok .fetch) (s .mem) c code → s .rip ≡ at c (length pre)
     → Ran undefined ok c code is (length pre + length (bytes is)) s (run undefined is s)
 unfolding Fine Safe run trace
-ran undefined ok c code [] pre post s q l f a h r = record { reached = done; there = let e : length pre ≡ length pre + 0 = omega arith in rw (← e) r; held = h }
+ran undefined ok c code [] pre post s q l f a h r =
+    let e : length pre ≡ length pre + 0 = omega arith in
+    record { reached = done; there = rw (← e) r; held = h }
 ran undefined ok c code (i ∷ is) pre post s q l f a h r =
     let t : State = one undefined i s in
     let p : code ≡ pre ++ (encode i ++ (bytes is ++ post)) = rw q (simp append-assoc) in
@@ -88,18 +122,25 @@ ran undefined ok c code (i ∷ is) pre post s q l f a h r =
     let e : t .rip ≡ at c (length (pre ++ encode i)) = rips i s (f .1) ∙ rw r (rw (length-append pre (encode i)) (omega arith)) in
     let next = ran undefined ok c code is (pre ++ encode i) post t (rw append-assoc p) l (f .2) (a .3) h3 e in
     let d : length (pre ++ encode i) + length (bytes is) ≡ length pre + length (encode i ++ bytes is) = simp length-append (omega arith) in
-    record { reached = more (next-is ok i s (f .0) hi) (yes-is (straight i) (f .1)) (step-is undefined ok i s (f .0) hi (a .0) (a .1)) (next .reached); there = rw (← d) (next .there); held = next .held }
+    let st : step undefined ok s ≡ some (t, writes i s) = step-is undefined ok i s (f .0) hi (a .0) (a .1) in
+    record {
+      reached = more (next-is ok i s (f .0) hi) (not-call i (f .1)) (not-ret i (f .1)) st (next .reached);
+      there = rw (← d) (next .there);
+      held = next .held;
+    }
   where
     rips : (i : Instr) (s : State) → T (straight i) → one undefined i s .rip ≡ at (s .rip) (length (encode i))
     rips i s t = unfold one past in exec-rip undefined i (past (length (encode i)) s) t
 
-pub goes-append : (undefined : State → Flags) (ok : Permissions) {s t u : State} {n m : ℕ} {ws vs : List ℕ} → Goes undefined ok s n ws t → Goes undefined ok t m vs u → Goes undefined ok s (n + m) (ws ++ vs) u
+pub goes-append : (undefined : State → Flags) (ok : Permissions) {s t u : State} {n m : ℕ} {ws vs : List ℕ}
+    → Goes undefined ok s n ws t → Goes undefined ok t m vs u → Goes undefined ok s (n + m) (ws ++ vs) u
 goes-append undefined ok {m = m} done q = let z : 0 + m ≡ m = omega arith in rw z q
-goes-append undefined ok {m = m} {vs = vs} (more {n = n} {ws = ws} {vs = xs} e f g p) q =
+goes-append undefined ok {m = m} {vs = vs} (more {n = n} {ws = ws} {vs = xs} e c r g p) q =
     let z : suc n + m ≡ suc (n + m) = omega arith in
-    rw z (rw (append-assoc ws xs vs) (more e f g (goes-append undefined ok p q)))
+    rw z (rw (append-assoc ws xs vs) (more e c r g (goes-append undefined ok p q)))
 
-pub safe-append : (undefined : State → Flags) (ok : Permissions) (c n : ℕ) (xs ys : List Instr) (s : State) → Safe undefined ok c n xs s → Safe undefined ok c n ys (run undefined xs s) → Safe undefined ok c n (xs ++ ys) s
+pub safe-append : (undefined : State → Flags) (ok : Permissions) (c n : ℕ) (xs ys : List Instr) (s : State)
+    → Safe undefined ok c n xs s → Safe undefined ok c n ys (run undefined xs s) → Safe undefined ok c n (xs ++ ys) s
 unfolding Safe run
 safe-append undefined ok c n [] ys s p q = q
 safe-append undefined ok c n (x ∷ xs) ys s p q = (p .0, p .1, p .2, safe-append undefined ok c n xs ys (one undefined x s) (p .3) q)
@@ -123,7 +164,9 @@ unfolding all
 all-append P [] ys p q = q
 all-append P (x ∷ xs) ys p q = go (P x) (all-append P xs ys) p
   where
-    go : (b : Bool) → (all P xs ≡ true → all P ys ≡ true → all P (xs ++ ys) ≡ true) → elim b [ true ↦ all P xs | false ↦ false ] ≡ true → elim b [ true ↦ all P (xs ++ ys) | false ↦ false ] ≡ true
+    go : (b : Bool) → (all P xs ≡ true → all P ys ≡ true → all P (xs ++ ys) ≡ true)
+        → elim b [ true ↦ all P xs | false ↦ false ] ≡ true
+        → elim b [ true ↦ all P (xs ++ ys) | false ↦ false ] ≡ true
     go true f e = f e q
     go false f e = e
 
@@ -133,7 +176,7 @@ all-span P zero a l h = refl
 all-span P (suc n) a l h =
     let z : at a 0 ≡ a = omega arith in
     let e : P a ≡ true = rw z at (h 0 (omega arith)) in
-    rw e (all-span P n (up a) (omega arith) (λ i k. let q : at (up a) i ≡ at a (suc i) = omega arith in rw q (h (suc i) (omega arith))))
+    rw e (all-span P n (up a) (omega arith) (λ i k. rw (up-at a i l) (h (suc i) (omega arith))))
 
 pub span-all : (P : ℕ → Bool) (n a i : ℕ) → a < 2 ^ 64 → all P (span n a) ≡ true → i < n → P (at a i) ≡ true
 unfolding all span
@@ -143,12 +186,14 @@ span-all P (suc n) a i l h k = go (P a) refl (span-all P n (up a)) h
     at0 : (i : ℕ) → at a zero ≡ a
     at0 i = omega arith
 
-    go : (b : Bool) → P a ≡ b → ((i : ℕ) → up a < 2 ^ 64 → all P (span n (up a)) ≡ true → i < n → P (at (up a) i) ≡ true) → elim b [ true ↦ all P (span n (up a)) | false ↦ false ] ≡ true → P (at a i) ≡ true
+    go : (b : Bool) → P a ≡ b
+        → ((i : ℕ) → up a < 2 ^ 64 → all P (span n (up a)) ≡ true → i < n → P (at (up a) i) ≡ true)
+        → elim b [ true ↦ all P (span n (up a)) | false ↦ false ] ≡ true → P (at a i) ≡ true
     go true e f h = pick i k
       where
         pick : (i : ℕ) → i < suc n → P (at a i) ≡ true
         pick zero k = rw (at0 0) e
-        pick (suc i) k = let q : at (up a) i ≡ at a (suc i) = omega arith in rw q at (f i (omega arith) h (omega arith))
+        pick (suc i) k = rw (up-at a i l) at (f i (omega arith) h (omega arith))
     go false e f h = absurd (let z : _≡_ {A = ℕ} 0 1 = cc in omega arith)
 
 out8 : (P : ℕ → Bool) (m : Memory) (a v x : ℕ) → a < 2 ^ 64 → all P (span 8 a) ≡ true → P x ≡ false → write 8 m a v x ≡ m x
@@ -158,8 +203,9 @@ out8 P m a v x l h e = write-out 8 m a v x l (λ i k q. no i k q (span-all P 8 a
     no i k q f = let f′ : P x ≡ true = rw (← q) at f in let z : _≡_ {A = ℕ} 0 1 = cc in omega arith
 
 -- the log of a step is right: a byte that is not in it stays
-pub unwritten : (undefined : State → Flags) (P : ℕ → Bool) (i : Instr) (s : State) (x n : ℕ) → all P (writes i s) ≡ true → P x ≡ false → exec undefined i (past n s) .mem x ≡ s .mem x
-unfolding exec past writes
+pub unwritten : (undefined : State → Flags) (P : ℕ → Bool) (i : Instr) (s : State) (x n : ℕ)
+    → all P (writes i s) ≡ true → P x ≡ false → exec undefined i (past n s) .mem x ≡ s .mem x
+unfolding exec past accesses
 unwritten undefined P (pop r) s x n h e = refl
 unwritten undefined P (mov d r) s x n h e = refl
 unwritten undefined P (movImm64 d v) s x n h e = refl
@@ -186,7 +232,8 @@ pub record Step (undefined : State → Flags) (ok : Permissions) (s t : State) (
   pub state : t ≡ exec undefined (f .instr) (past (f .size) s)
   pub log : ws ≡ writes (f .instr) s
 
-pub step-inv : (undefined : State → Flags) (ok : Permissions) (s t : State) (ws : List ℕ) → step undefined ok s ≡ some (t, ws) → Step undefined ok s t ws
+pub step-inv : (undefined : State → Flags) (ok : Permissions) (s t : State) (ws : List ℕ)
+    → step undefined ok s ≡ some (t, ws) → Step undefined ok s t ws
 unfolding step did
 step-inv undefined ok s t ws e = go (next ok s) refl e
   where
@@ -194,14 +241,21 @@ step-inv undefined ok s t ws e = go (next ok s) refl e
     go none q e = absurd (let z : _≡_ {A = ℕ} 0 1 = cc in omega arith)
     go (some f) q e = by (all (ok .read) (reads (f .instr) s)) (all (ok .write) (writes (f .instr) s)) e
       where
-        by : (x y : Bool) → _≡_ {A = Option (State × List ℕ)} (elim x [ true ↦ elim y [ true ↦ some (exec undefined (f .instr) (past (f .size) s), writes (f .instr) s) | false ↦ none ] | false ↦ none ]) (some (t, ws)) → Step undefined ok s t ws
+        after : State × List ℕ
+        after = (exec undefined (f .instr) (past (f .size) s), writes (f .instr) s)
+
+        may : Bool → Bool → Option (State × List ℕ)
+        may x y = elim x [ true ↦ elim y [ true ↦ some after | false ↦ none ] | false ↦ none ]
+
+        by : (x y : Bool) → may x y ≡ some (t, ws) → Step undefined ok s t ws
         by true true e =
-            let r : _≡_ {A = State × List ℕ} (exec undefined (f .instr) (past (f .size) s), writes (f .instr) s) (t, ws) = cc in
-            record { f = f; fetched = q; state = sym (ap (λ (z : State × List ℕ). z .0) r); log = sym (ap (λ (z : State × List ℕ). z .1) r) }
+            let r : _≡_ {A = State × List ℕ} (t, ws) after = cc in
+            record { f = f; fetched = q; state = ap (λ (z : State × List ℕ). z .0) r; log = ap (λ (z : State × List ℕ). z .1) r }
         by true false e = absurd (let z : _≡_ {A = ℕ} 0 1 = cc in omega arith)
         by false y e = absurd (let z : _≡_ {A = ℕ} 0 1 = cc in omega arith)
 
-pub step-unlogged : (undefined : State → Flags) (ok : Permissions) (P : ℕ → Bool) (s t : State) (ws : List ℕ) (x : ℕ) → step undefined ok s ≡ some (t, ws) → all P ws ≡ true → P x ≡ false → t .mem x ≡ s .mem x
+pub step-unlogged : (undefined : State → Flags) (ok : Permissions) (P : ℕ → Bool) (s t : State) (ws : List ℕ) (x : ℕ)
+    → step undefined ok s ≡ some (t, ws) → all P ws ≡ true → P x ≡ false → t .mem x ≡ s .mem x
 step-unlogged undefined ok P s t ws x st h e =
     let r = step-inv undefined ok s t ws st in
     rw (r .state) (unwritten undefined P (r .f .instr) s x (r .f .size) (rw (r .log) at h) e)
@@ -211,7 +265,9 @@ unfolding all
 all-left P [] ys h = refl
 all-left P (x ∷ xs) ys h = go (P x) (all-left P xs ys) h
   where
-    go : (b : Bool) → (all P (xs ++ ys) ≡ true → all P xs ≡ true) → elim b [ true ↦ all P (xs ++ ys) | false ↦ false ] ≡ true → elim b [ true ↦ all P xs | false ↦ false ] ≡ true
+    go : (b : Bool) → (all P (xs ++ ys) ≡ true → all P xs ≡ true)
+        → elim b [ true ↦ all P (xs ++ ys) | false ↦ false ] ≡ true
+        → elim b [ true ↦ all P xs | false ↦ false ] ≡ true
     go true f e = f e
     go false f e = e
 
@@ -220,10 +276,13 @@ unfolding all
 all-right P [] ys h = h
 all-right P (x ∷ xs) ys h = go (P x) (all-right P xs ys) h
   where
-    go : (b : Bool) → (all P (xs ++ ys) ≡ true → all P ys ≡ true) → elim b [ true ↦ all P (xs ++ ys) | false ↦ false ] ≡ true → all P ys ≡ true
+    go : (b : Bool) → (all P (xs ++ ys) ≡ true → all P ys ≡ true)
+        → elim b [ true ↦ all P (xs ++ ys) | false ↦ false ] ≡ true → all P ys ≡ true
     go true f e = f e
     go false f e = absurd (let z : _≡_ {A = ℕ} 0 1 = cc in omega arith)
 
-pub unlogged : (undefined : State → Flags) (ok : Permissions) (P : ℕ → Bool) {s t : State} {n : ℕ} {ws : List ℕ} (x : ℕ) → Goes undefined ok s n ws t → all P ws ≡ true → P x ≡ false → t .mem x ≡ s .mem x
+pub unlogged : (undefined : State → Flags) (ok : Permissions) (P : ℕ → Bool) {s t : State} {n : ℕ} {ws : List ℕ} (x : ℕ)
+    → Goes undefined ok s n ws t → all P ws ≡ true → P x ≡ false → t .mem x ≡ s .mem x
 unlogged undefined ok P x done h e = refl
-unlogged undefined ok P x (more {s = s} {t = t} {ws = ws} {vs = vs} f g st p) h e = unlogged undefined ok P x p (all-right P ws vs h) e ∙ step-unlogged undefined ok P s t ws x st (all-left P ws vs h) e
+unlogged undefined ok P x (more {s = s} {t = t} {ws = ws} {vs = vs} f c r st p) h e =
+    unlogged undefined ok P x p (all-right P ws vs h) e ∙ step-unlogged undefined ok P s t ws x st (all-left P ws vs h) e

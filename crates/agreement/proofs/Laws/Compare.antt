@@ -9,12 +9,12 @@ use lib.Dec.{eqb, leb, ltb}
 use lib.IntN.{ℤ.negsuc, ℤ.pos}
 use lib.Signed.{ltZ}
 use Rattle.agreement.specs.Laws.{ComparesByFlags}
-use Rattle.agreement.specs.Riscv.Instruction.{less, signed}
-use Rattle.agreement.specs.X86.Execute.{below}
-use Rattle.agreement.specs.X86.Flags.{half, holds, subFlags, unlike}
+use Rattle.agreement.specs.Riscv.Instruction.{signed}
+use Rattle.agreement.specs.X86.Flags.{holds, subFlags, unlike}
 use Rattle.agreement.specs.X86.Form.{Cc.B, Cc.E, Cc.L}
 use Rattle.agreement.specs.X86.Memory.{up}
 use Rattle.agreement.proofs.Laws.Tests.{eqb-no, eqb-yes, leb-false, leb-no, leb-true, leb-yes}
+use Rattle.agreement.proofs.Laws.Width.{half}
 
 wrap : (M a b : ℕ) → a < M → b < M → b ≤ a → (a + (M - b)) % M ≡ a - b
 wrap M a b h k l =
@@ -33,24 +33,28 @@ lessZ M H a b m h k = go (decLe b a)
     G x y z = unlike z (unlike x y && unlike z x) ≡ ltZ (cond x (negsuc (M - 1 - a)) (pos a)) (cond y (negsuc (M - 1 - b)) (pos b))
 
     up : b ≤ a → (x y z : Bool) → leb H a ≡ x → leb H b ≡ y → leb H (a - b) ≡ z → G x y z
-    up o true true true p q r = sym (leb-yes (suc (M - 1 - b)) (M - 1 - a) (omega (arith, leb-true H a p, leb-true H b q, leb-true H (a - b) r)))
-    up o true true false p q r = sym (leb-no (suc (M - 1 - b)) (M - 1 - a) (omega (arith, leb-true H a p, leb-true H b q, leb-false H (a - b) r)))
+    up o true true true p q r =
+        sym (leb-yes (suc (M - 1 - b)) (M - 1 - a) (omega (arith, leb-true H a p, leb-true H b q, leb-true H (a - b) r)))
+    up o true true false p q r =
+        sym (leb-no (suc (M - 1 - b)) (M - 1 - a) (omega (arith, leb-true H a p, leb-true H b q, leb-false H (a - b) r)))
     up o true false true p q r = refl
     up o true false false p q r = refl
     up o false true true p q r = refl
     up o false true false p q r = refl
-    up o false false true p q r = sym (leb-yes (suc (a)) (b) (omega (arith, leb-false H a p, leb-false H b q, leb-true H (a - b) r)))
-    up o false false false p q r = sym (leb-no (suc (a)) (b) (omega (arith, leb-false H a p, leb-false H b q, leb-false H (a - b) r)))
+    up o false false true p q r = sym (leb-yes (suc a) b (omega (arith, leb-false H a p, leb-false H b q, leb-true H (a - b) r)))
+    up o false false false p q r = sym (leb-no (suc a) b (omega (arith, leb-false H a p, leb-false H b q, leb-false H (a - b) r)))
 
     down : a < b → (x y z : Bool) → leb H a ≡ x → leb H b ≡ y → leb H (a + (M - b)) ≡ z → G x y z
-    down o true true true p q r = sym (leb-yes (suc (M - 1 - b)) (M - 1 - a) (omega (arith, leb-true H a p, leb-true H b q, leb-true H (a + (M - b)) r)))
-    down o true true false p q r = sym (leb-no (suc (M - 1 - b)) (M - 1 - a) (omega (arith, leb-true H a p, leb-true H b q, leb-false H (a + (M - b)) r)))
+    down o true true true p q r =
+        sym (leb-yes (suc (M - 1 - b)) (M - 1 - a) (omega (arith, leb-true H a p, leb-true H b q, leb-true H (a + (M - b)) r)))
+    down o true true false p q r =
+        sym (leb-no (suc (M - 1 - b)) (M - 1 - a) (omega (arith, leb-true H a p, leb-true H b q, leb-false H (a + (M - b)) r)))
     down o true false true p q r = refl
     down o true false false p q r = refl
     down o false true true p q r = refl
     down o false true false p q r = refl
-    down o false false true p q r = sym (leb-yes (suc (a)) (b) (omega (arith, leb-false H a p, leb-false H b q, leb-true H (a + (M - b)) r)))
-    down o false false false p q r = sym (leb-no (suc (a)) (b) (omega (arith, leb-false H a p, leb-false H b q, leb-false H (a + (M - b)) r)))
+    down o false false true p q r = sym (leb-yes (suc a) b (omega (arith, leb-false H a p, leb-false H b q, leb-true H (a + (M - b)) r)))
+    down o false false false p q r = sym (leb-no (suc a) b (omega (arith, leb-false H a p, leb-false H b q, leb-false H (a + (M - b)) r)))
 
     go : Dec (b ≤ a) → unlike (leb H ((a + (M - b)) % M)) (unlike (leb H a) (leb H b) && unlike (leb H ((a + (M - b)) % M)) (leb H a))
         ≡ ltZ (cond (leb H a) (negsuc (M - 1 - a)) (pos a)) (cond (leb H b) (negsuc (M - 1 - b)) (pos b))
@@ -78,8 +82,10 @@ cmp-E w a b h l = go (decLe b a)
 
     go : Dec (b ≤ a) → eqb ((a + (2 ^ w - b)) % 2 ^ w) 0 ≡ eqb a b
     go (yes o) = rw (wrap (2 ^ w) a b h l o) (up o (decLe a b))
-    go (no o) = let o′ : a < b = omega arith in rw (wrap′ (2 ^ w) a b h l o′) (eqb-no (a + (2 ^ w - b)) 0 (omega arith) ∙ sym (eqb-no a b (omega arith)))
+    go (no o) =
+        let o′ : a < b = omega arith in
+        rw (wrap′ (2 ^ w) a b h l o′) (eqb-no (a + (2 ^ w - b)) 0 (omega arith) ∙ sym (eqb-no a b (omega arith)))
 
 pub compares-by-flags : ComparesByFlags
 unfolding ComparesByFlags
-compares-by-flags k a b h l = record { less = cmp-L k a b h l; below = cmp-B (suc k) a b; equal = cmp-E (suc k) a b h l }
+compares-by-flags k a b h l = (cmp-L k a b h l, cmp-B (suc k) a b, cmp-E (suc k) a b h l)

@@ -37,17 +37,19 @@ or-four : (a b c d i j k : ℕ) → a % 2 ^ i ≡ 0 → b < 2 ^ i → (a + b) % 
     → bitOr (bitOr (bitOr a b) c) d ≡ a + b + c + d
 or-four a b c d i j k p q r s t u = rw (or-above i a b p q, or-above j (a + b) c r s) (or-above k (a + b + c) d t u)
 
+-- the bits of w from bit i, under a mask, put at bit j
+abbrev masked : ℕ → ℕ → ℕ → ℕ → ℕ
+masked w i mask j = bitAnd (w / 2 ^ i) mask * 2 ^ j
+
 b-scatter : (w : ℕ)
-    → bitOr (bitOr (bitOr (bitAnd (w / 2 ^ 31) 0x1 * 2 ^ 12) (bitAnd (w / 2 ^ 7) 0x1 * 2 ^ 11)) (bitAnd (w / 2 ^ 25) 0x3F * 2 ^ 5)) (bitAnd (w / 2 ^ 8) 0xF * 2 ^ 1)
-    ≡ scatterB w
+    → bitOr (bitOr (bitOr (masked w 31 0x1 12) (masked w 7 0x1 11)) (masked w 25 0x3F 5)) (masked w 8 0xF 1) ≡ scatterB w
 b-scatter w =
     rw (mask-is w 31 1, mask-is w 7 1, mask-is w 25 6, mask-is w 8 4)
     (or-four (bits 31 31 w * 2 ^ 12) (bits 7 7 w * 2 ^ 11) (bits 30 25 w * 2 ^ 5) (bits 11 8 w * 2) 12 11 5
     (omega arith) (omega arith) (omega arith) (omega arith) (omega arith) (omega arith))
 
 j-scatter : (w : ℕ)
-    → bitOr (bitOr (bitOr (bitAnd (w / 2 ^ 31) 0x1 * 2 ^ 20) (bitAnd (w / 2 ^ 12) 0xFF * 2 ^ 12)) (bitAnd (w / 2 ^ 20) 0x1 * 2 ^ 11)) (bitAnd (w / 2 ^ 21) 0x3FF * 2 ^ 1)
-    ≡ scatterJ w
+    → bitOr (bitOr (bitOr (masked w 31 0x1 20) (masked w 12 0xFF 12)) (masked w 20 0x1 11)) (masked w 21 0x3FF 1) ≡ scatterJ w
 j-scatter w =
     rw (mask-is w 31 1, mask-is w 12 8, mask-is w 20 1, mask-is w 21 10)
     (or-four (bits 31 31 w * 2 ^ 20) (bits 19 12 w * 2 ^ 12) (bits 20 20 w * 2 ^ 11) (bits 30 21 w * 2) 20 12 11

@@ -10,7 +10,7 @@ use lib.ListN.{length, length-append}
 use Rattle.agreement.specs.Common.{Helper, Helper.forAccess, Helper.forHalfword, greatest, mostSteps}
 use Rattle.agreement.specs.Laws.{Lengths}
 use Rattle.agreement.specs.Riscv.Fields.{plus}
-use Rattle.agreement.specs.Riscv.Instruction.{Branch, Instruction, Instruction.AUIPC, Instruction.EBREAK, Instruction.ECALL, Instruction.FENCE, Instruction.FENCE·I, Instruction.JAL, Instruction.JALR, Instruction.LUI, Instruction.access, Instruction.branch, Instruction.op, Instruction.opImm, Instruction.opM, Instruction.other, Op, Op.ADD, Op.ADDW, Op.AND, Op.MUL, Op.MULW, Op.OR, Op.SLL, Op.SLLW, Op.SLT, Op.SLTU, Op.SRA, Op.SRAW, Op.SRL, Op.SRLW, Op.SUB, Op.SUBW, Op.XOR, OpImm, OpImm.ADDI, OpImm.ADDIW, OpImm.ANDI, OpImm.ORI, OpImm.SLLI, OpImm.SLLIW, OpImm.SLTI, OpImm.SLTIU, OpImm.SRAI, OpImm.SRAIW, OpImm.SRLI, OpImm.SRLIW, OpImm.XORI}
+use Rattle.agreement.specs.Riscv.Instruction.{Branch, Instruction, Instruction.AUIPC, Instruction.FENCE, Instruction.FENCE·I, Instruction.JAL, Instruction.JALR, Instruction.LUI, Instruction.access, Instruction.branch, Instruction.op, Instruction.opImm, Instruction.other, Instruction.unmodelled, Op, Op.ADD, Op.ADDW, Op.AND, Op.MUL, Op.MULW, Op.OR, Op.SLL, Op.SLLW, Op.SLT, Op.SLTU, Op.SRA, Op.SRAW, Op.SRL, Op.SRLW, Op.SUB, Op.SUBW, Op.XOR, OpImm, OpImm.ADDI, OpImm.ADDIW, OpImm.ANDI, OpImm.ORI, OpImm.SLLI, OpImm.SLLIW, OpImm.SLTI, OpImm.SLTIU, OpImm.SRAI, OpImm.SRAIW, OpImm.SRLI, OpImm.SRLIW, OpImm.XORI}
 use Rattle.agreement.specs.Translation.Emit.{bodyOp, bodyOpImm, closing, codeBranch, codeConst, codeJal, codeJalr, codeOp, codeOpImm, compare, leftover, loadReg, opening, passes, storeReg}
 use Rattle.agreement.specs.Translation.Kind.{kind}
 use Rattle.agreement.specs.Translation.Replies.{Block, First, First.begins, First.lacks, First.refuses, Refusal, Refusal.limitZero, Refusal.oddStart, Refusal.outputShort, Reply, Reply.block, Reply.refusal, blockOf, byFirst, first, translate, walked}
@@ -20,6 +20,7 @@ use Rattle.agreement.specs.X86.Encode.{bytes, encode, modMem, modReg, re
 use Rattle.agreement.specs.X86.Form.{Alu.add, Alu.and, Instr, Instr.aluImm32, Instr.callRax, Instr.mov, Instr.movImm64, Instr.ret, Instr.store, R10, R11, RAX, RBX, RDX}
 use Rattle.agreement.specs.X86.Memory.{bytesOf}
 use Rattle.agreement.proofs.Host.Straight.{bytes-append}
+use Rattle.agreement.proofs.Laws.Leftover.{leftover-by}
 use Rattle.agreement.specs.Translation.Decode32 as Decode32
 
 abbrev len : List Instr → ℕ
@@ -119,36 +120,17 @@ unfolding encode rex modReg modMem bytesOf
 len-jalr d p i l = go (eqb d 0)
   where
     code : Bool → List Instr
-    code t = loadReg R10 p ∷ aluImm32 add R10 i ∷ aluImm32 and R10 (2 ^ 32 - 2) ∷ (cond t [] (movImm64 R11 l ∷ store RBX (8 * d) R11 ∷ []) ++ mov RAX R10 ∷ [])
+    code t =
+        loadReg R10 p ∷ aluImm32 add R10 i ∷ aluImm32 and R10 (2 ^ 32 - 2)
+        ∷ (cond t [] (movImm64 R11 l ∷ store RBX (8 * d) R11 ∷ []) ++ mov RAX R10 ∷ [])
 
     go : (t : Bool) → (10 ≤ len (code t)) × (len (code t) ≤ 41)
     go true = omega arith
     go false = omega arith
 
 len-leftover : (o r q : ℕ) → len (leftover o r q) ≤ 17
-unfolding leftover
-len-leftover o r q = go (eqb o 0x63) (eqb o 0x33) (eqb o 0x3B) (eqb o 0x13) (eqb o 0x1B)
-  where
-    code : Bool → Bool → Bool → Bool → Bool → List Instr
-    code a b c d e =
-        elim a [
-          | true ↦ compare r q
-          | false ↦ elim b [
-            | true ↦ loadReg R10 r ∷ loadReg R11 q ∷ []
-            | false ↦ elim c [
-              | true ↦ loadReg R10 r ∷ loadReg R11 q ∷ []
-              | false ↦ elim d [ true ↦ loadReg R10 r ∷ [] | false ↦ elim e [ true ↦ loadReg R10 r ∷ [] | false ↦ [] ] ]
-            ]
-          ]
-        ]
-
-    go : (a b c d e : Bool) → len (code a b c d e) ≤ 17
-    go true b c d e = omega (arith, len-compare r q)
-    go false true c d e = omega (arith, len-loads r q)
-    go false false true d e = omega (arith, len-loads r q)
-    go false false false true e = omega (arith, len-load r)
-    go false false false false true = omega (arith, len-load r)
-    go false false false false false = omega arith
+len-leftover o r q = leftover-by (λ is. len is ≤ 17) o r q
+    (omega (arith, len-compare r q)) (omega (arith, len-loads r q)) (omega (arith, len-load r)) (omega arith)
 
 -- 2. A walk: what its words and its end have together
 
@@ -168,7 +150,10 @@ record Sized (n : ℕ) (p : Walked) : Type 0 where
   high : len (p .code) + most (p .end) ≤ 34 * n + 35
 
 sized-before : (n : ℕ) (is : List Instr) (p : Walked) → len is ≤ 34 → Sized n p → Sized (suc n) (before is p)
-sized-before n is p l s = record { low = rw (len-append is (p .code)) (omega (arith, s .low)); high = rw (len-append is (p .code)) (omega (arith, s .high)) }
+sized-before n is p l s = record {
+  low = rw (len-append is (p .code)) (omega (arith, s .low));
+  high = rw (len-append is (p .code)) (omega (arith, s .high));
+}
 
 sized-jumps : (n : ℕ) (is : List Instr) → 10 ≤ len is → len is ≤ 44 → Sized (suc n) (jumps is)
 unfolding least most
@@ -176,7 +161,9 @@ sized-jumps n is l k = record { low = omega arith; high = omega arith }
 
 sized-refused : (n pc w : ℕ) → Sized (suc n) (refusedAt pc w)
 unfolding least most
-sized-refused n pc w = let l = len-leftover (Decode32.opcode w) (Decode32.rs1 w) (Decode32.rs2 w) in record { low = omega arith; high = omega arith }
+sized-refused n pc w =
+    let l = len-leftover (Decode32.opcode w) (Decode32.rs1 w) (Decode32.rs2 w) in
+    record { low = omega arith; high = omega arith }
 
 sized-stops : (n pc : ℕ) → Sized n (stopsAt pc)
 unfolding least most
@@ -189,13 +176,16 @@ sized-helps n h i pc = record { low = omega arith; high = omega arith }
 sized-emit : (i : Instruction) (n pc w : ℕ) (p : Walked) → Sized n p → Sized (suc n) (emit i pc w p)
 unfolding emit
 sized-emit (op o) n pc w p s =
-    sized-before n (codeOp o (Decode32.rd w) (Decode32.rs1 w) (Decode32.rs2 w)) p (len-op o (Decode32.rd w) (Decode32.rs1 w) (Decode32.rs2 w)) s
+    sized-before n (codeOp o (Decode32.rd w) (Decode32.rs1 w) (Decode32.rs2 w)) p
+    (len-op o (Decode32.rd w) (Decode32.rs1 w) (Decode32.rs2 w)) s
 sized-emit (opImm o) n pc w p s =
     sized-before n (codeOpImm o (Decode32.rd w) (Decode32.rs1 w) (Decode32.imm32 w) (Decode32.shamt w) (Decode32.shamtW w)) p
     (len-imm o (Decode32.rd w) (Decode32.rs1 w) (Decode32.imm32 w) (Decode32.shamt w) (Decode32.shamtW w)) s
-sized-emit LUI n pc w p s = sized-before n (codeConst (Decode32.rd w) (Decode32.immU w)) p (omega (arith, len-const (Decode32.rd w) (Decode32.immU w))) s
+sized-emit LUI n pc w p s =
+    sized-before n (codeConst (Decode32.rd w) (Decode32.immU w)) p (omega (arith, len-const (Decode32.rd w) (Decode32.immU w))) s
 sized-emit AUIPC n pc w p s =
-    sized-before n (codeConst (Decode32.rd w) (plus pc (Decode32.immU w))) p (omega (arith, len-const (Decode32.rd w) (plus pc (Decode32.immU w)))) s
+    sized-before n (codeConst (Decode32.rd w) (plus pc (Decode32.immU w))) p
+    (omega (arith, len-const (Decode32.rd w) (plus pc (Decode32.immU w)))) s
 sized-emit FENCE n pc w p s = sized-before n [] p (omega arith) s
 sized-emit FENCE·I n pc w p s = sized-before n [] p (omega arith) s
 sized-emit (branch c) n pc w p s =
@@ -208,9 +198,7 @@ sized-emit JALR n pc w p s =
     let l = len-jalr (Decode32.rd w) (Decode32.rs1 w) (Decode32.imm32 w) (plus pc 4) in
     sized-jumps n (codeJalr (Decode32.rd w) (Decode32.rs1 w) (Decode32.imm32 w) (plus pc 4)) (l .0) (omega (arith, l .1))
 sized-emit (access a) n pc w p s = sized-helps n forAccess w pc
-sized-emit (opM o) n pc w p s = sized-refused n pc w
-sized-emit ECALL n pc w p s = sized-refused n pc w
-sized-emit EBREAK n pc w p s = sized-refused n pc w
+sized-emit (unmodelled o) n pc w p s = sized-refused n pc w
 sized-emit other n pc w p s = sized-refused n pc w
 
 sized : (n pc : ℕ) (hs : List ℕ) → Sized n (walk n pc hs)
@@ -224,9 +212,12 @@ sized (suc n) pc (x ∷ []) = go (eqb (bitAnd x 0x3) 0x3)
     go false = sized-helps n forHalfword x pc
 sized (suc n) pc (x ∷ y ∷ hs) = go (eqb (bitAnd x 0x3) 0x3) (sized n (plus pc 4) hs)
   where
+    w : ℕ
+    w = Decode32.wordOf x y
+
     go : (t : Bool) → Sized n (walk n (plus pc 4) hs)
-        → Sized (suc n) (elim t [ true ↦ emit (kind (Decode32.wordOf x y)) pc (Decode32.wordOf x y) (walk n (plus pc 4) hs) | false ↦ helps forHalfword x pc ])
-    go true s = sized-emit (kind (Decode32.wordOf x y)) n pc (Decode32.wordOf x y) (walk n (plus pc 4) hs) s
+        → Sized (suc n) (elim t [ true ↦ emit (kind w) pc w (walk n (plus pc 4) hs) | false ↦ helps forHalfword x pc ])
+    go true s = sized-emit (kind w) n pc w (walk n (plus pc 4) hs) s
     go false s = sized-helps n forHalfword x pc
 
 -- 3. The block
@@ -255,7 +246,8 @@ block-length h1 h2 n pc hs =
     let p : Walked = walk n pc hs in
     let e : List Instr = ending h1 h2 (p .end) (p .added) in
     let s : Sized n p = sized n pc hs in
-    rw (len-append opening (p .code ++ e)) (rw (len-append (p .code) e) (omega (arith, len-opening, s .low, s .high, len-ending h1 h2 (p .end) (p .added))))
+    rw (len-append opening (p .code ++ e))
+    (rw (len-append (p .code) e) (omega (arith, len-opening, s .low, s .high, len-ending h1 h2 (p .end) (p .added))))
 
 -- a block that was replied is the walk's
 the-block : (start limit : ℕ) (hs : List ℕ) (h1 h2 room : ℕ) (b : Block)
@@ -273,8 +265,10 @@ the-block start limit hs h1 h2 room b e = go (eqb limit 0) (eqb (start % 2) 1) (
     last true e = no e
     last false e = cc
 
-    go : (x y : Bool) (f : First)
-        → _≡_ {A = Reply} (elim x [ true ↦ refusal limitZero | false ↦ elim y [ true ↦ refusal (oddStart start) | false ↦ byFirst f room W ] ]) (block b) → b ≡ W
+    answer : Bool → Bool → First → Reply
+    answer x y f = elim x [ true ↦ refusal limitZero | false ↦ elim y [ true ↦ refusal (oddStart start) | false ↦ byFirst f room W ] ]
+
+    go : (x y : Bool) (f : First) → answer x y f ≡ block b → b ≡ W
     go true y f e = no e
     go false true f e = no e
     go false false (lacks i) e = no e

@@ -1,5 +1,5 @@
 -- The Rust's tests and the manual's rows take every word for the same instruction.
-use mathlib.Core.Bool.{Bool, cond, false, true}
+use mathlib.Core.Bool.{Bool, _&&_, cond, false, true}
 use mathlib.Core.List.{List, [], _++_, _∷_}
 use mathlib.Core.Logic.{_≢_}
 use mathlib.Core.Option.{none}
@@ -85,7 +85,7 @@ missed o f s t w (r ∷ rs) c m = go (member (r .code) opcodes) refl c (λ c. mi
   where
     go : (b : Bool) → member (r .code) opcodes ≡ b → elim b [ true ↦ covered rs | false ↦ false ] ≡ true
         → (covered rs ≡ true → find o f s t w rs ≡ other) → find o f s t w (r ∷ rs) ≡ other
-    go true e c k = rw (misses-member o (r .code) opcodes m e, find) (k c)
+    go true e c k = rw (misses-member o (r .code) opcodes m e) (k c)
     go false e c k = absurd (false-true c)
 
 rows-covered : covered rows ≡ true
@@ -99,7 +99,7 @@ patterns (a ∷ arms) = a .pattern ∷ patterns arms
 match-missed : (o : ℕ) (arms : List Arm) → Misses o (patterns arms) → match o arms ≡ other
 unfolding Misses match
 match-missed o [] m = refl
-match-missed o (a ∷ arms) m = rw (m .0, match) (match-missed o arms (m .1))
+match-missed o (a ∷ arms) m = rw (m .0) (match-missed o arms (m .1))
 
 kind-missed : (o f s t : ℕ) → Misses o opcodes → kindOf o f s t ≡ other
 unfolding kindOf
@@ -200,29 +200,24 @@ neither : (a b : Bool) → cond a false b ≡ true → (a ≡ false) × (b ≡ t
 neither true b e = absurd (false-true e)
 neither false b e = (refl, e)
 
--- a row with its three tests, or else x
-abbrev rowOr : Bool → Bool → Bool → Instruction → Instruction → Instruction
-rowOr a b c i x = elim a [ true ↦ elim b [ true ↦ elim c [ true ↦ i | false ↦ x ] | false ↦ x ] | false ↦ x ]
+-- does the row fit
+abbrev fits : Row → ℕ → ℕ → ℕ → ℕ → ℕ → Bool
+fits r o f s t w = eqb o (r .code) && (threeIs (r .three) f && topIs (r .top) s t w)
 
-keep-row : (a b c : Bool) (i x y : Instruction) → keep i ≡ y → keep x ≡ y → keep (rowOr a b c i x) ≡ y
-keep-row true true true i x y p q = p
-keep-row true true false i x y p q = q
-keep-row true false c i x y p q = q
-keep-row false b c i x y p q = q
+keep-row : (c : Bool) (i x : Instruction) → chosen i ≡ false → keep x ≡ other → keep (cond c i x) ≡ other
+keep-row true i x p q = rw p
+keep-row false i x p q = q
 
 keep-back : (o f s t w : ℕ) (rs : List Row) → noneChosen rs ≡ true → keep (find o f s t w rs) ≡ other
 unfolding find noneChosen
 keep-back o f s t w [] h = refl
 keep-back o f s t w (r ∷ rs) h =
     let n = neither (chosen (r .name)) (noneChosen rs) h in
-    keep-row (eqb o (r .code)) (threeIs (r .three) f) (topIs (r .top) s t w) (r .name) _ other
-    (rw (n .0)) (keep-back o f s t w rs (n .1))
+    keep-row (fits r o f s t w) (r .name) _ (n .0) (keep-back o f s t w rs (n .1))
 
-keep-rows : (a b c : Bool) (i x y : Instruction) → chosen i ≡ true → keep x ≡ y → keep (rowOr a b c i x) ≡ rowOr a b c i y
-keep-rows true true true i x y p q = rw p
-keep-rows true true false i x y p q = q
-keep-rows true false c i x y p q = q
-keep-rows false b c i x y p q = q
+keep-rows : (c : Bool) (i x y : Instruction) → chosen i ≡ true → keep x ≡ y → keep (cond c i x) ≡ cond c i y
+keep-rows true i x y p q = rw p
+keep-rows false i x y p q = q
 
 keep-front : (o f s t w : ℕ) (rs xs : List Row) → allChosen rs ≡ true → noneChosen xs ≡ true
     → keep (find o f s t w (rs ++ xs)) ≡ find o f s t w rs
@@ -230,8 +225,7 @@ unfolding find allChosen
 keep-front o f s t w [] xs h k = keep-back o f s t w xs k
 keep-front o f s t w (r ∷ rs) xs h k =
     let c = both (chosen (r .name)) (allChosen rs) h in
-    keep-rows (eqb o (r .code)) (threeIs (r .three) f) (topIs (r .top) s t w) (r .name) _ _
-    (c .0) (keep-front o f s t w rs xs (c .1) k)
+    keep-rows (fits r o f s t w) (r .name) _ _ (c .0) (keep-front o f s t w rs xs (c .1) k)
 
 front-chosen : allChosen front ≡ true
 unfolding allChosen
@@ -245,13 +239,13 @@ back-unchosen = refl
 find-last : (o f s t w : ℕ) (rs : List Row) (x : Row) → eqb o (x .code) ≡ false
     → find o f s t w (rs ++ x ∷ []) ≡ find o f s t w rs
 unfolding find
-find-last o f s t w [] x e = rw (e, find)
-find-last o f s t w (r ∷ rs) x e =
-    ap (rowOr (eqb o (r .code)) (threeIs (r .three) f) (topIs (r .top) s t w) (r .name)) (find-last o f s t w rs x e)
+find-last o f s t w [] x e = rw e
+find-last o f s t w (r ∷ rs) x e = ap (cond (fits r o f s t w) (r .name)) (find-last o f s t w rs x e)
 
 elsewhere-is : (o f s t w : ℕ) → o ≢ 0x67 → find o f s t w rows ≡ keep (find o f s t w listing)
 elsewhere-is o f s t w n =
-    find-last o f s t w front (row JALR 0x67 anyThree anyTop) (eqb-no o 0x67 n) ∙ sym (keep-front o f s t w front back front-chosen back-unchosen)
+    find-last o f s t w front (row JALR 0x67 anyThree anyTop) (eqb-no o 0x67 n)
+    ∙ sym (keep-front o f s t w front back front-chosen back-unchosen)
 
 jalr-taken : (f s t w : ℕ) → f < 8 → find 0x67 f s t w rows ≡ JALR
 unfolding find threeIs topIs

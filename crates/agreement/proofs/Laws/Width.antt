@@ -10,12 +10,15 @@ use lib.Pow.{high, low, pow-add, pow-mono, pow-pos, shl-exact, shl-shr, shr-le, 
 use Rattle.agreement.specs.Laws.{ShiftsArithmetic, SignExtends, SignExtendsByShifts}
 use Rattle.agreement.specs.Riscv.Instruction.{shiftRightArithmetic}
 use Rattle.agreement.specs.X86.Execute.{below}
-use Rattle.agreement.specs.X86.Flags.{half, negative, sext, shifted}
+use Rattle.agreement.specs.X86.Flags.{negative, sext, shifted}
 use Rattle.agreement.specs.X86.Form.{Shift.sar}
 use Rattle.agreement.specs.X86.Memory.{at}
 use Rattle.agreement.proofs.Laws.Tests.{leb-no, leb-yes}
 use Rattle.agreement.specs.Translation.Decode32 as Decode32
 use Rattle.agreement.specs.Riscv.Immediates as Manual
+
+abbrev pub half : ℕ → ℕ
+half w = 2 ^ w / 2
 
 -- 2^(k+1) as the model writes halves of it
 pub half-is : (k : ℕ) → half (suc k) ≡ 2 ^ k
@@ -89,7 +92,8 @@ sign-extends-by-shifts k a w h = go (decLt a (2 ^ k))
         let l′ : 2 ^ k ≤ a = omega arith in
         let d : (2 ^ 64 - 1 - a * 2 ^ (64 - suc k)) / 2 ^ (64 - suc k) ≡ 2 ^ suc k - 1 - a =
         complement (2 ^ 64) (2 ^ suc k) (2 ^ (64 - suc k)) a whole h (pow-pos (64 - suc k)) in
-        rw up-is (rw (leb-yes (2 ^ 63) (a * 2 ^ (64 - suc k)) (high l′)) (rw (d, top-bit k a h l′) (omega (arith, pow-mono {i = suc k} {j = 64} w))))
+        rw up-is (rw (leb-yes (2 ^ 63) (a * 2 ^ (64 - suc k)) (high l′))
+        (rw (d, top-bit k a h l′) (omega (arith, pow-mono {i = suc k} {j = 64} w))))
 
 pub byShifts-is : (k a : ℕ) → suc k ≤ 64 → a < 2 ^ suc k → Decode32.signExtend (suc k) a ≡ Manual.signExtend (suc k) a
 byShifts-is = unfold SignExtendsByShifts in sign-extends-by-shifts

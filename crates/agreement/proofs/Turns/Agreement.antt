@@ -31,7 +31,9 @@ record Result (m : GuestState) (rb : RegisterBytes) (ts : List Turn) : Type 0 wh
   at-count : since (m .count) events ≡ manual (feeds ts events) m .count
   along : Along m ts events
 
-nothing : (m : GuestState) (rb : RegisterBytes) → ((r : ℕ) → r < 32 → read 8 rb (8 * r) ≡ m .registers r) → m .registers 0 ≡ 0 → Result m rb []
+nothing : (m : GuestState) (rb : RegisterBytes)
+    → ((r : ℕ) → r < 32 → read 8 rb (8 * r) ≡ m .registers r) → m .registers 0 ≡ 0
+    → Result m rb []
 unfolding manual feeds since Along
 nothing m rb sl z = record {
   events = [];
@@ -57,7 +59,9 @@ along-cons t ts e es m a r = (a, r)
 
 -- one more turn: what it came to, and the manual's state m2 after it
 one-more : (t : Turn) (ts : List Turn) (m m2 : GuestState) (rb rb2 : RegisterBytes) (e : Event) → Turned (m .pc) rb t e (m2 .pc) rb2
-    → At m t e → turn (feed t e) m ≡ m2 → ((es : List Event) → since (m .count) (e ∷ es) ≡ since (m2 .count) es) → Result m2 rb2 ts → Result m rb (t ∷ ts)
+    → At m t e → turn (feed t e) m ≡ m2
+    → ((es : List Event) → since (m .count) (e ∷ es) ≡ since (m2 .count) es)
+    → Result m2 rb2 ts → Result m rb (t ∷ ts)
 one-more t ts m m2 rb rb2 e h a z c r =
     let es : List Event = r .events in
     let q : manual (feeds (t ∷ ts) (e ∷ es)) m ≡ manual (feeds ts es) m2 = manual-cons t ts e es m ∙ ap (manual (feeds ts es)) z in
@@ -76,19 +80,27 @@ one-more t ts m m2 rb rb2 e h a z c r =
 -- a refused one
 skipped : (t : Turn) (ts : List Turn) (m : GuestState) (rb : RegisterBytes) (r : Refusal)
     → reply t (m .pc) ≡ refusal r → isRefused t m ≡ true → Result m rb ts → Result m rb (t ∷ ts)
-skipped t ts m rb r e f k = one-more t ts m m rb rb (rejected (m .pc) r) (skip e) (unfold At in (f, refl)) same (λ es. unfold since in refl) k
+skipped t ts m rb r e f k =
+    one-more t ts m m rb rb (rejected (m .pc) r) (skip e) (unfold At in (f, refl)) same (λ es. unfold since in refl) k
   where
     same : turn (feed t (rejected (m .pc) r)) m ≡ m
     same = unfold feed feedOf leftBy in turn-refused (feedOf t none) m (unfold feedOf in f)
 
 -- one whose block is entered
-entered : (t : Turn) (ts : List Turn) (m : GuestState) (rb : RegisterBytes) (d : Done t m rb) → Result (d .m2) (bytesAfter t (d .v)) ts → Result m rb (t ∷ ts)
-entered t ts m rb d k =
-    one-more t ts m (d .m2) rb (bytesAfter t (d .v)) (visited (m .pc) (d .b .count) (d .v))
-    (subst (λ (x : ℕ). Turned (m .pc) rb t (visited (m .pc) (d .b .count) (d .v)) x (bytesAfter t (d .v))) (d .pcs) (visit (d .reply-is) (d .went)))
-    (d .at) (d .turned) counts k
+entered : (t : Turn) (ts : List Turn) (m : GuestState) (rb : RegisterBytes) (d : Done t m rb)
+    → Result (d .m2) (bytesAfter t (d .v)) ts → Result m rb (t ∷ ts)
+entered t ts m rb d k = one-more t ts m (d .m2) rb rb2 e goes (d .at) (d .turned) counts k
   where
-    counts : (es : List Event) → since (m .count) (visited (m .pc) (d .b .count) (d .v) ∷ es) ≡ since (d .m2 .count) es
+    e : Event
+    e = visited (m .pc) (d .b .count) (d .v)
+
+    rb2 : RegisterBytes
+    rb2 = bytesAfter t (d .v)
+
+    goes : Turned (m .pc) rb t e (d .m2 .pc) rb2
+    goes = subst (λ (x : ℕ). Turned (m .pc) rb t e x rb2) (d .pcs) (visit (d .reply-is) (d .went))
+
+    counts : (es : List Event) → since (m .count) (e ∷ es) ≡ since (d .m2 .count) es
     counts es = unfold since in rw (d .counts)
 
 -- what is asked of the first turn, and of the others after it
@@ -98,24 +110,28 @@ split : (pc : ℕ) (rb : RegisterBytes) (t : Turn) (ts : List Turn) → Premises
 unfolding Premises
 split pc rb t ts h = h
 
-turns : (ts : List Turn) (m : GuestState) (rb : RegisterBytes) → Premises (m .pc) rb ts → m .pc < 2 ^ 64
+-- the turns ts agree from every start
+abbrev Agrees : List Turn → Type 0
+Agrees ts = (m : GuestState) (rb : RegisterBytes) → Premises (m .pc) rb ts → m .pc < 2 ^ 64
     → ((r : ℕ) → r < 32 → read 8 rb (8 * r) ≡ m .registers r) → m .registers 0 ≡ 0 → Result m rb ts
+
+turns : (ts : List Turn) → Agrees ts
 turns [] m rb g low sl z = nothing m rb sl z
 turns (t ∷ ts) m rb g low sl z = go (split (m .pc) rb t ts g .0) (replied t (m .pc) (split (m .pc) rb t ts g .0 .halfwords)) (turns ts)
   where
     later : (e : Event) (pc′ : ℕ) (rb′ : RegisterBytes) → Turned (m .pc) rb t e pc′ rb′ → Premises pc′ rb′ ts
     later = split (m .pc) rb t ts g .2
 
-    go : Typed t → Replied t (m .pc)
-        → ((m : GuestState) (rb : RegisterBytes) → Premises (m .pc) rb ts → m .pc < 2 ^ 64 → ((r : ℕ) → r < 32 → read 8 rb (8 * r) ≡ m .registers r)
-        → m .registers 0 ≡ 0 → Result m rb ts) → Result m rb (t ∷ ts)
+    go : Typed t → Replied t (m .pc) → Agrees ts → Result m rb (t ∷ ts)
     go ty (out r e f) k = skipped t ts m rb r e f (k m rb (later (rejected (m .pc) r) (m .pc) rb (skip e)) low sl z)
     go ty (came e f) k =
         let en = split (m .pc) rb t ts g .1 _ e in
         let d = entered-done t m rb ty low sl z e f en in
-        let g2 : Premises (d .v .exit .regs RAX) (bytesAfter t (d .v)) ts =
-        later (visited (m .pc) (d .b .count) (d .v)) (d .v .exit .regs RAX) (bytesAfter t (d .v)) (visit (d .reply-is) (d .went)) in
-        entered t ts m rb d (k (d .m2) (bytesAfter t (d .v)) (subst (λ (x : ℕ). Premises x (bytesAfter t (d .v)) ts) (d .pcs) g2) (d .low) (d .slots) (d .x0))
+        let rb2 : RegisterBytes = bytesAfter t (d .v) in
+        let g2 : Premises (d .v .exit .regs RAX) rb2 ts =
+        later (visited (m .pc) (d .b .count) (d .v)) (d .v .exit .regs RAX) rb2 (visit (d .reply-is) (d .went)) in
+        let g3 : Premises (d .m2 .pc) rb2 ts = subst (λ (x : ℕ). Premises x rb2 ts) (d .pcs) g2 in
+        entered t ts m rb d (k (d .m2) rb2 g3 (d .low) (d .slots) (d .x0))
 
 pub agreement : Agreement
 unfolding Agreement
@@ -127,7 +143,7 @@ agreement pc rb ts low z g =
       pc′ = r .pc′;
       rb′ = r .rb′;
       history = r .history;
-      only = λ es p b h. history-once (r .history) h;
+      only = λ es p b h. let q = history-once (r .history) h in (q .events, q .pcs, q .bytes);
       at-pc = r .at-pc;
       at-slots = r .at-slots;
       at-x0 = r .at-x0;

@@ -16,6 +16,7 @@ use Rattle.agreement.specs.X86.Form.{Cc, Cc.AE, Cc.B, Cc.E, Cc.GE, Cc.L,
 use Rattle.agreement.specs.X86.Memory.{Memory, at, bytesOf, nth, overlay, read, up}
 use Rattle.agreement.proofs.Codec.Decoding.{digit-lt}
 use Rattle.agreement.proofs.Host.Fetching.{Holds}
+use Rattle.agreement.proofs.Host.Memory.{up-at}
 use Rattle.agreement.proofs.Host.Straight.{Fine}
 use Rattle.agreement.proofs.Laws.Tests.{leb-no, leb-yes}
 
@@ -134,18 +135,19 @@ stands may m a (b ∷ c ∷ bs) f s o h =
     let z : a + 0 ≡ a = omega arith in
     let e : m a ≡ b = rw z at (h 0 (omega arith)) in
     let y : up a ≡ a + 1 = omega arith in
-    let o′ : (i : ℕ) → i < length (c ∷ bs) → may (a + 1 + i) ≡ true = λ i l. let w : a + 1 + i ≡ a + suc i = omega arith in rw w (o (suc i) (omega arith)) in
-    let h′ : (i : ℕ) → i < length (c ∷ bs) → m (a + 1 + i) ≡ nth (c ∷ bs) i = λ i l. let w : a + 1 + i ≡ a + suc i = omega arith in rw w (h (suc i) (omega arith)) in
-    (rw z at (o 0 (omega arith)), rw e (mod-eq-of-lt (s .0)), rw y (stands may m (a + 1) (c ∷ bs) (omega arith) (s .1) o′ h′))
+    let rest : Holds may m (a + 1) (c ∷ bs) = stands may m (a + 1) (c ∷ bs) (omega arith) (s .1)
+    (λ i l. rw (next i) (o (suc i) (omega arith))) (λ i l. rw (next i) (h (suc i) (omega arith))) in
+    (rw z at (o 0 (omega arith)), rw e (mod-eq-of-lt (s .0)), rw y rest)
+  where
+    next : (i : ℕ) → a + 1 + i ≡ a + suc i
+    next i = omega arith
 
 pub laid : (may : ℕ → Bool) (m : Memory) (c : ℕ) (code : List ℕ) → c + length code ≤ 2 ^ 64 → Bytes code
     → ((i : ℕ) → i < length code → may (c + i) ≡ true) → Holds may (overlay m c (length code) (nth code)) c code
-laid may m c code f s o = stands may (overlay m c (length code) (nth code)) c code f s o (λ i l. overlay-in m c (length code) (nth code) i l)
+laid may m c code f s o =
+    stands may (overlay m c (length code) (nth code)) c code f s o (λ i l. overlay-in m c (length code) (nth code) i l)
 
 -- 3. A slot, in memory and among the register bytes
-
-up-at : (a i : ℕ) → a < 2 ^ 64 → at (up a) i ≡ at a (suc i)
-up-at a i h = omega arith
 
 -- the same bytes at two addresses
 read-shift : (n : ℕ) (m m′ : Memory) (a a′ : ℕ) → a < 2 ^ 64 → a′ < 2 ^ 64

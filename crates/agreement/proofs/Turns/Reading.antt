@@ -9,7 +9,7 @@ use native.Mathlib.Omega.{arith}
 use lib.Dec.{eqb}
 use Rattle.agreement.specs.Common.{Helper, Helper.forHalfword}
 use Rattle.agreement.specs.Riscv.Fields.{plus, rd, rs1, rs2}
-use Rattle.agreement.specs.Riscv.Instruction.{Instruction, Instruction.AUIPC, Instruction.EBREAK, Instruction.ECALL, Instruction.FENCE, Instruction.FENCE·I, Instruction.JAL, Instruction.JALR, Instruction.LUI, Instruction.access, Instruction.branch, Instruction.op, Instruction.opImm, Instruction.opM, Instruction.other, branches}
+use Rattle.agreement.specs.Riscv.Instruction.{Instruction, Instruction.AUIPC, Instruction.FENCE, Instruction.FENCE·I, Instruction.JAL, Instruction.JALR, Instruction.LUI, Instruction.access, Instruction.branch, Instruction.op, Instruction.opImm, Instruction.other, Instruction.unmodelled, branches}
 use Rattle.agreement.specs.Riscv.Run.{Feed, GuestState, Left, Read, Registers, Stop.called, Stop.plain, does, halt, help, isLong, oneMore, readTurn, reading, refused, resume, settle, taken, turn, wordOf, writeX}
 use Rattle.agreement.proofs.Laws.Tests.{eqb-no, eqb-yes}
 use Rattle.agreement.specs.Riscv.Immediates as Manual
@@ -30,7 +30,8 @@ write-x0 x d v = go (ℕ-discrete d 0)
 stays-on : (x : Registers) (d v : ℕ) (k : Registers → Read) → ((x : Registers) → Stays x (k x)) → Stays x (oneMore (k (writeX x d v)))
 stays-on x d v k f = let r = f (writeX x d v) in record { x0 = r .x0 ∙ write-x0 x d v; low = r .low }
 
-stays-does : (i : Instruction) (pc w : ℕ) (x : Registers) (k : Registers → Read) → pc < 2 ^ 64 → ((x : Registers) → Stays x (k x)) → Stays x (does i pc w x k)
+stays-does : (i : Instruction) (pc w : ℕ) (x : Registers) (k : Registers → Read)
+    → pc < 2 ^ 64 → ((x : Registers) → Stays x (k x)) → Stays x (does i pc w x k)
 unfolding does
 stays-does (op o) pc w x k h f = stays-on x (rd w) _ k f
 stays-does (opImm o) pc w x k h f = stays-on x (rd w) _ k f
@@ -46,9 +47,7 @@ stays-does (branch c) pc w x k h f = record { x0 = refl; low = go (branches c (x
 stays-does JAL pc w x k h f = record { x0 = write-x0 x (rd w) _; low = omega arith }
 stays-does JALR pc w x k h f = record { x0 = write-x0 x (rd w) _; low = omega arith }
 stays-does (access a) pc w x k h f = record { x0 = refl; low = h }
-stays-does (opM o) pc w x k h f = record { x0 = refl; low = h }
-stays-does ECALL pc w x k h f = record { x0 = refl; low = h }
-stays-does EBREAK pc w x k h f = record { x0 = refl; low = h }
+stays-does (unmodelled o) pc w x k h f = record { x0 = refl; low = h }
 stays-does other pc w x k h f = record { x0 = refl; low = h }
 
 pub stays : (n pc : ℕ) (hs : List ℕ) (x : Registers) → pc < 2 ^ 64 → Stays x (reading n pc hs x)
@@ -62,9 +61,12 @@ stays (suc n) pc (g ∷ []) x h = go (isLong g)
     go false = record { x0 = refl; low = h }
 stays (suc n) pc (g ∷ u ∷ hs) x h = go (isLong g) (λ x. stays n (plus pc 4) hs x (omega arith))
   where
+    w : ℕ
+    w = wordOf g u
+
     go : (t : Bool) → ((x : Registers) → Stays x (reading n (plus pc 4) hs x))
-        → Stays x (elim t [ true ↦ does (taken (wordOf g u)) pc (wordOf g u) x (reading n (plus pc 4) hs) | false ↦ help x pc forHalfword g ])
-    go true f = stays-does (taken (wordOf g u)) pc (wordOf g u) x (reading n (plus pc 4) hs) h f
+        → Stays x (elim t [ true ↦ does (taken w) pc w x (reading n (plus pc 4) hs) | false ↦ help x pc forHalfword g ])
+    go true f = stays-does (taken w) pc w x (reading n (plus pc 4) hs) h f
     go false f = record { x0 = refl; low = h }
 
 -- the state after a turn

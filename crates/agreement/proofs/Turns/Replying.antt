@@ -9,7 +9,7 @@ use lib.Dec.{eqb, ltb}
 use lib.ListN.{length}
 use Rattle.agreement.specs.Common.{Helper.forHalfword, greatest}
 use Rattle.agreement.specs.Riscv.Fields.{plus}
-use Rattle.agreement.specs.Riscv.Instruction.{Instruction, Instruction.AUIPC, Instruction.EBREAK, Instruction.ECALL, Instruction.FENCE, Instruction.FENCE·I, Instruction.JAL, Instruction.JALR, Instruction.LUI, Instruction.access, Instruction.branch, Instruction.op, Instruction.opImm, Instruction.opM, Instruction.other}
+use Rattle.agreement.specs.Riscv.Instruction.{Instruction, Instruction.AUIPC, Instruction.FENCE, Instruction.FENCE·I, Instruction.JAL, Instruction.JALR, Instruction.LUI, Instruction.access, Instruction.branch, Instruction.op, Instruction.opImm, Instruction.other, Instruction.unmodelled}
 use Rattle.agreement.specs.Riscv.Run.{chosen, firstRefused, isLong, isNotTaken, refused, taken, wordOf}
 use Rattle.agreement.specs.Translation.Kind.{kind}
 use Rattle.agreement.specs.Translation.Replies.{Block, First.begins, First.lacks, First.refuses, Refusal, Refusal.limitZero, Refusal.missing, Refusal.notTaken, Refusal.oddStart, Refusal.outputShort, Reply.block, Reply.refusal, blockOf, byFirst, first, firstWord, translate, walked}
@@ -30,7 +30,7 @@ data FirstIs (hs : List ℕ) : Type 0 where
 first-chosen : (i : Instruction) (w : ℕ) → firstWord i w ≡ cond (chosen i) begins (refuses w)
 unfolding firstWord
 first-chosen (op o) w = refl
-first-chosen (opM o) w = refl
+first-chosen (unmodelled o) w = refl
 first-chosen (opImm o) w = refl
 first-chosen (branch c) w = refl
 first-chosen (access a) w = refl
@@ -40,8 +40,6 @@ first-chosen JAL w = refl
 first-chosen JALR w = refl
 first-chosen FENCE w = refl
 first-chosen FENCE·I w = refl
-first-chosen ECALL w = refl
-first-chosen EBREAK w = refl
 first-chosen other w = refl
 
 first-is : (hs : List ℕ) → Halfwords hs → FirstIs hs
@@ -79,7 +77,8 @@ pub data Replied (t : Turn) (pc : ℕ) : Type 0 where
 pub replied : (t : Turn) (pc : ℕ) → Halfwords (t .halfwords) → Replied t pc
 replied t pc l = go (eqb (t .limit) 0) (eqb (pc % 2) 1) (ltb (length (t .output)) greatest) refl refl refl (first-is (t .halfwords) l)
   where
-    go : (a b c : Bool) → eqb (t .limit) 0 ≡ a → eqb (pc % 2) 1 ≡ b → ltb (length (t .output)) greatest ≡ c → FirstIs (t .halfwords) → Replied t pc
+    go : (a b c : Bool) → eqb (t .limit) 0 ≡ a → eqb (pc % 2) 1 ≡ b
+        → ltb (length (t .output)) greatest ≡ c → FirstIs (t .halfwords) → Replied t pc
     go true b c p q r f = out limitZero (unfold translate in rw (p, translate)) (unfold refused in rw p)
     go false true c p q r f = out (oddStart pc) (unfold translate in rw (p, translate) (rw q)) (unfold refused in rw (p, q))
     go false false c p q r (lacks-first i e h) =
@@ -114,9 +113,7 @@ emit-ok (branch c) n pc w p h l s = omega arith
 emit-ok JAL n pc w p h l s = omega arith
 emit-ok JALR n pc w p h l s = omega arith
 emit-ok (access a) n pc w p h l s = omega arith
-emit-ok (opM o) n pc w p h l s = omega arith
-emit-ok ECALL n pc w p h l s = omega arith
-emit-ok EBREAK n pc w p h l s = omega arith
+emit-ok (unmodelled o) n pc w p h l s = omega arith
 emit-ok other n pc w p h l s = omega arith
 
 pub walk-ok : (n pc : ℕ) (hs : List ℕ) → pc < 2 ^ 64 → Halfwords hs → Bounds n (walk n pc hs)
@@ -130,10 +127,13 @@ walk-ok (suc n) pc (x ∷ []) h l = go (eqb (bitAnd x 0x3) 0x3)
     go false = omega arith
 walk-ok (suc n) pc (x ∷ y ∷ hs) h l = go (eqb (bitAnd x 0x3) 0x3) (walk-ok n (plus pc 4) hs (omega arith) (l .1 .1))
   where
-    w-lt : Decode32.wordOf x y < 2 ^ 32
+    w : ℕ
+    w = Decode32.wordOf x y
+
+    w-lt : w < 2 ^ 32
     w-lt = rw (wordOf-is x y (l .0)) (omega (arith, l .0, l .1 .0))
 
     go : (t : Bool) → Bounds n (walk n (plus pc 4) hs)
-        → Bounds (suc n) (elim t [ true ↦ emit (kind (Decode32.wordOf x y)) pc (Decode32.wordOf x y) (walk n (plus pc 4) hs) | false ↦ helps forHalfword x pc ])
-    go true s = emit-ok (kind (Decode32.wordOf x y)) n pc (Decode32.wordOf x y) (walk n (plus pc 4) hs) h w-lt s
+        → Bounds (suc n) (elim t [ true ↦ emit (kind w) pc w (walk n (plus pc 4) hs) | false ↦ helps forHalfword x pc ])
+    go true s = emit-ok (kind w) n pc w (walk n (plus pc 4) hs) h w-lt s
     go false s = omega (arith, l .0)

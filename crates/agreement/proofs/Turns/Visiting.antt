@@ -8,19 +8,19 @@ use native.Mathlib.Omega.{arith}
 use lib.Dec.{eqb, leb, ltb}
 use lib.ListN.{length, length-append}
 use Rattle.agreement.specs.Common.{Helper, Helper.forAccess, Helper.forHalfword, mostSteps}
-use Rattle.agreement.specs.Riscv.Run.{GuestState, Left, Read, Registers, Stop.called, Stop.plain, does, readTurn, reading, turn}
+use Rattle.agreement.specs.Riscv.Run.{Feed, GuestState, Left, Read, Registers, Stop.called, Stop.plain, does, readTurn, reading, turn}
 use Rattle.agreement.specs.Translation.Emit.{addCount, closing, opening, passes}
 use Rattle.agreement.specs.Translation.Replies.{Block, Reply.block, blockOf, walked}
 use Rattle.agreement.specs.Translation.Walk.{End, End.calls, End.goesOn, End.jumped, Walked, before, counted, ending, helperAt, instrs}
 use Rattle.agreement.specs.Turns.Agreement.{At, Entered, Returns, feed, feedOf, helperOf, isRefused, leftBy, own}
-use Rattle.agreement.specs.Turns.Machine.{Call, Event.visited, RegisterBytes, Steps, Turn, Visit, Went, Went.helped, Went.plainly, bytesAfter, enter, plusRdx, reply}
+use Rattle.agreement.specs.Turns.Machine.{By, Call, Event.visited, RegisterBytes, Steps, Turn, Visit, Went, Went.helped, Went.plainly, bytesAfter, enter, plusRdx, reply}
 use Rattle.agreement.specs.Turns.Premises.{Enterable, Keeps, Layout, Typed}
 use Rattle.agreement.specs.X86.Decode.{Bytes, Operand.mem}
 use Rattle.agreement.specs.X86.Encode.{bytes, encode, modReg, rex}
 use Rattle.agreement.specs.X86.Form.{Alu.add, Instr, Instr.aluImm32, Instr.callRax, Instr.ret, Ok, RAX, RDI, RDX, RSP}
 use Rattle.agreement.specs.X86.Memory.{Memory, at, nth, overlay, read}
 use Rattle.agreement.specs.X86.State.{State}
-use Rattle.agreement.specs.X86.Step.{all, steps}
+use Rattle.agreement.specs.X86.Step.{all, next, step, steps}
 use Rattle.agreement.proofs.Block.Frame.{frame}
 use Rattle.agreement.proofs.Block.Stages.{Entry, Exit, Place, Returned, way-out}
 use Rattle.agreement.proofs.Block.Visited.{Back, Calling, Leaving, calls-leaves, goesOn-leaves, jumped-leaves}
@@ -96,6 +96,10 @@ place t code l n = record {
 
 -- 2. The state at entry
 
+-- memory with the register bytes laid in, the block not yet
+abbrev with-bytes : Turn → RegisterBytes → Memory
+with-bytes t rb = overlay (t .rest) (t .base) 256 rb
+
 entry-words : (t : Turn) (code : List ℕ) (rb : RegisterBytes) → Typed t → t .base < 2 ^ 64 → t .sp < 2 ^ 64
     → (k : ℕ) → k < 16 → enter t code rb .regs k < 2 ^ 64
 unfolding enter
@@ -107,14 +111,14 @@ entry-words t code rb g b s k l = go (eqb k RSP) (eqb k RDI)
     go false false = g .others k l
 
 entry-mem : (t : Turn) (code : List ℕ) (rb : RegisterBytes)
-    → enter t code rb .mem ≡ overlay (overlay (t .rest) (t .base) 256 rb) (t .block) (length code) (nth code)
+    → enter t code rb .mem ≡ overlay (with-bytes t rb) (t .block) (length code) (nth code)
 unfolding enter
 entry-mem t code rb = refl
 
 entry-slot : (t : Turn) (code : List ℕ) (rb : RegisterBytes) → Layout t (length code) → (r : ℕ) → r < 32
     → read 8 (enter t code rb .mem) (t .base + 8 * r) ≡ read 8 rb (8 * r)
 entry-slot t code rb l r k = rw (entry-mem t code rb) (slot-shift _ rb (t .base) r (l .base-fits) k (λ i h.
-    overlay-out (overlay (t .rest) (t .base) 256 rb) (t .block) (length code) (nth code) (t .base + i) (λ j n e. l .block-base-apart j i n h (sym e))
+    overlay-out (with-bytes t rb) (t .block) (length code) (nth code) (t .base + i) (λ j n e. l .block-base-apart j i n h (sym e))
     ∙ overlay-in (t .rest) (t .base) 256 rb i h))
 
 entry : (t : Turn) (code : List ℕ) (rb : RegisterBytes) (x : Registers) → Typed t → Layout t (length code) → Bytes code
@@ -123,13 +127,18 @@ entry t code rb x ty l s h = record {
   at-code = unfold enter in refl;
   rdi = unfold enter in refl;
   rsp = sp;
-  held = rw (entry-mem t code rb) (laid (t .ok .fetch) (overlay (t .rest) (t .base) 256 rb) (t .block) code (l .block-fits) s (l .block-fetch));
+  held = rw (entry-mem t code rb) (laid (t .ok .fetch) (with-bytes t rb) (t .block) code (l .block-fits) s (l .block-fetch));
   slots = λ r k. entry-slot t code rb l r k ∙ h r k;
   words = entry-words t code rb ty (omega (arith, l .base-fits)) (omega (arith, l .stack-fits));
 }
   where
     sp : enter t code rb .regs RSP ≡ t .sp - 64 + 64
     sp = unfold enter in omega (arith, l .stack-low)
+
+-- a slot among the bytes that a memory has at the registers' address
+slot-after : (t : Turn) (m : Memory) (r : ℕ) → t .base + 256 ≤ 2 ^ 64 → r < 32
+    → read 8 (λ i. m (t .base + i)) (8 * r) ≡ read 8 m (t .base + 8 * r)
+slot-after t m r f k = sym (slot-shift m (λ i. m (t .base + i)) (t .base) r f k (λ i h. refl))
 
 -- 3. The block's bytes
 
@@ -153,7 +162,8 @@ opening-allok : AllOk opening
 unfolding AllOk Ok
 opening-allok = omega arith
 
-block-bytes : (h1 h2 : ℕ) (p : Walked) → h1 < 2 ^ 64 → h2 < 2 ^ 64 → p .added ≤ 64 → EndOk (p .end) → AllOk (p .code) → Bytes (bytes (instrs h1 h2 p))
+block-bytes : (h1 h2 : ℕ) (p : Walked) → h1 < 2 ^ 64 → h2 < 2 ^ 64 → p .added ≤ 64
+    → EndOk (p .end) → AllOk (p .code) → Bytes (bytes (instrs h1 h2 p))
 unfolding instrs
 block-bytes h1 h2 p a b k o c =
     small-bytes _ (ok-append opening (p .code ++ ending h1 h2 (p .end) (p .added)) opening-allok
@@ -169,8 +179,14 @@ block-long h1 h2 p =
     let rest : List Instr = p .code ++ ending h1 h2 (p .end) (p .added) in
     rw (bytes-append opening rest) (rw (length-append (bytes opening) (bytes rest)) (omega (arith, opening-long)))
 
+-- one step by this instruction
+by-step : (t : Turn) (i : Instr) {u v : State} {ws : List ℕ}
+    → next (t .ok) u ≡ some (fetch i) → step (t .undefined) (t .ok) u ≡ some (v, ws) → By t i u v ws
+by-step t i f d = record { size = length (encode i); fetch = f; does = d }
+
 -- a helper's promise, as the stages use it
-returned : (t : Turn) (code : List ℕ) (u v : State) → Layout t (length code) → Keeps t (length code) u v → Returned (t .block) (t .sp - 64) code u v
+returned : (t : Turn) (code : List ℕ) (u v : State) → Layout t (length code)
+    → Keeps t (length code) u v → Returned (t .block) (t .sp - 64) code u v
 returned t code u v l k = record {
   rip = k .rip;
   rsp = k .rsp;
@@ -209,15 +225,18 @@ module _ (t : Turn) (m : GuestState) (rb : RegisterBytes) (ty : Typed t) (low : 
   abbrev code : List ℕ
   code = bytes (instrs (t .helper16) (t .helperMem) p)
 
+  abbrev limit : ℕ
+  limit = min (t .limit) mostSteps
+
   abbrev q : Read
   q = readTurn (feedOf t none) m
 
-  q-is : readTurn (feedOf t none) m ≡ reading (min (t .limit) mostSteps) (m .pc) (t .halfwords) (m .registers)
+  q-is : readTurn (feedOf t none) m ≡ reading limit (m .pc) (t .halfwords) (m .registers)
   unfolding feedOf
   q-is = refl
 
-  bounds : Bounds (min (t .limit) mostSteps) p
-  bounds = walk-ok (min (t .limit) mostSteps) (m .pc) (t .halfwords) low (ty .halfwords)
+  bounds : Bounds limit p
+  bounds = walk-ok limit (m .pc) (t .halfwords) low (ty .halfwords)
 
   module _ (re : reply t (m .pc) ≡ block b) (rf : isRefused t m ≡ false) (en : Enterable t b rb) where
     ly : Layout t (length code)
@@ -227,14 +246,20 @@ module _ (t : Turn) (m : GuestState) (rb : RegisterBytes) (ty : Typed t) (low : 
     pl = place t code ly (block-long (t .helper16) (t .helperMem) p)
 
     agrees : (s : State) → Slots (t .base) (m .registers) s → Agree (t .undefined) (t .base) (pl .b-fits) p q s
-    agrees s h = rw q-is (agree (t .undefined) (t .base) (pl .b-fits) (min (t .limit) mostSteps) (m .pc) (t .halfwords) (m .registers) s (ty .halfwords) h)
+    agrees s h =
+        rw q-is (agree (t .undefined) (t .base) (pl .b-fits) limit (m .pc) (t .halfwords) (m .registers) s (ty .halfwords) h)
 
     -- a state with these slots, to read off what does not depend on the state
-    agreed : Agree (t .undefined) (t .base) (pl .b-fits) p q (record { regs = λ k. t .base; flags = t .flags; rip = 0; mem = enter t code rb .mem })
+    abbrev some-state : State
+    some-state = record { regs = λ k. t .base; flags = t .flags; rip = 0; mem = enter t code rb .mem }
+
+    agreed : Agree (t .undefined) (t .base) (pl .b-fits) p q some-state
     agreed = agrees _ (record { base = refl; slots = λ r k. entry-slot t code rb ly r k ∙ sl r k })
 
     code-bytes : Bytes code
-    code-bytes = block-bytes (t .helper16) (t .helperMem) p (ty .helper16) (ty .helperMem) (omega (arith, bounds .few)) (bounds .end-ok) (fine-ok (p .code) (agreed .fit .fine))
+    code-bytes =
+        block-bytes (t .helper16) (t .helperMem) p (ty .helper16) (ty .helperMem) (omega (arith, bounds .few)) (bounds .end-ok)
+        (fine-ok (p .code) (agreed .fit .fine))
 
     s0 : State
     s0 = enter t code rb
@@ -249,12 +274,13 @@ module _ (t : Turn) (m : GuestState) (rb : RegisterBytes) (ty : Typed t) (low : 
     sp-is = omega (arith, ly .stack-low)
 
     kept : Stays (m .registers) q
-    kept = rw q-is (stays (min (t .limit) mostSteps) (m .pc) (t .halfwords) (m .registers) low)
+    kept = rw q-is (stays limit (m .pc) (t .halfwords) (m .registers) low)
 
     no-log : all (own t) [] ≡ true
     no-log = unfold all in refl
 
-    returns-by : (w u : State) (n : ℕ) (ws : List ℕ) (c : Option Call) → Exit (t .sp - 64) s0 w u → n ≡ length (instrs (t .helper16) (t .helperMem) p)
+    returns-by : (w u : State) (n : ℕ) (ws : List ℕ) (c : Option Call)
+        → Exit (t .sp - 64) s0 w u → n ≡ length (instrs (t .helper16) (t .helperMem) p)
         → all (own t) ws ≡ true → Returns t m (m .pc) (record { entry = s0; call = c; exit = u; steps = n; log = ws })
     returns-by w u n ws c e k l = record {
       accepted = rf;
@@ -272,16 +298,27 @@ module _ (t : Turn) (m : GuestState) (rb : RegisterBytes) (ty : Typed t) (low : 
       log = l;
     }
 
+    -- how the block that was entered in s0 leaves, calls its helper, and comes back from it after n steps
+    abbrev Leaves : Type 0
+    Leaves = Leaving (t .undefined) (t .ok) (own t) (t .base) (t .block) (t .sp - 64) (t .helper16) (t .helperMem) p pl q s0
+
+    abbrev CallsHelper : Helper → ℕ → Type 0
+    CallsHelper k i = Calling (t .undefined) (t .ok) (own t) (t .base) (t .block) (t .sp - 64) (t .helper16) (t .helperMem) p pl q k i s0
+
+    abbrev ComesBack : ℕ → State → Type 0
+    ComesBack n v = Back (t .undefined) (t .ok) (own t) (t .base) (t .block) (t .sp - 64) (t .helper16) (t .helperMem) p pl q n s0 v
+
     -- without a helper
-    plain-done : Leaving (t .undefined) (t .ok) (own t) (t .base) (t .block) (t .sp - 64) (t .helper16) (t .helperMem) p pl q s0
+    plain-done : Leaves
         → q .stop ≡ plain → b .count ≡ q .added → Done t m rb
     plain-done l st ct = record {
       b = b;
       v = record { entry = s0; call = none; exit = l .t; steps = suc (l .n); log = l .way .ws ++ [] };
       reply-is = re;
-      went = unfold s0 in plainly (l .way .goes) (record { size = length (encode ret); fetch = l .fetch; does = l .does });
+      went = unfold s0 in plainly (l .way .goes) (by-step t ret (l .fetch) (l .does));
       at = unfold At Entered in (
-        returns-by (l .w) (l .t) (suc (l .n)) (l .way .ws ++ []) none (l .exit) (l .steps) (all-append (own t) (l .way .ws) [] (l .way .own) no-log),
+        returns-by (l .w) (l .t) (suc (l .n)) (l .way .ws ++ []) none (l .exit) (l .steps)
+            (all-append (own t) (l .way .ws) [] (l .way .own) no-log),
         record {
           stop = st;
           rax = l .exit .rax ∙ l .rax;
@@ -296,23 +333,26 @@ module _ (t : Turn) (m : GuestState) (rb : RegisterBytes) (ty : Typed t) (low : 
       turned = unfold feed feedOf in turn-plain (feedOf t none) m (unfold feedOf in rf) st;
       pcs = l .exit .rax ∙ l .rax;
       counts = unfold plusRdx in rw (l .exit .rdx ∙ l .rdx);
-      slots = λ r k. sym (slot-shift (l .t .mem) (λ i. l .t .mem (t .base + i)) (t .base) r (ly .base-fits) k (λ i h. refl)) ∙ rw (l .exit .same) (l .slots r k);
+      slots = λ r k. slot-after t (l .t .mem) r (ly .base-fits) k ∙ rw (l .exit .same) (l .slots r k);
       x0 = kept .x0 ∙ zero0;
       low = kept .low;
     }
 
     -- with a helper
-    abbrev inside : (k : Helper) (i : ℕ)
-        → Calling (t .undefined) (t .ok) (own t) (t .base) (t .block) (t .sp - 64) (t .helper16) (t .helperMem) p pl q k i s0 → State
+    abbrev inside : (k : Helper) (i : ℕ) → CallsHelper k i → State
     inside k i c = one (t .undefined) callRax (c .u)
+
+    -- what the turn feeds to the manual's run, what the helper left among it
+    abbrev fed : Left → Feed
+    fed l = record { limit = t .limit; halfwords = t .halfwords; room = length (t .output); left = some l }
 
     target-is : (k : Helper) → helperAt k (t .helper16) (t .helperMem) ≡ helperOf t k
     target-is forHalfword = refl
     target-is forAccess = refl
 
-    helped-by : (k : Helper) (i : ℕ) (c : Calling (t .undefined) (t .ok) (own t) (t .base) (t .block) (t .sp - 64) (t .helper16) (t .helperMem) p pl q k i s0)
+    helped-by : (k : Helper) (i : ℕ) (c : CallsHelper k i)
         → q .stop ≡ called k i → b .count ≡ suc (q .added) → Keeps t (length code) (inside k i c) (t .helper (inside k i c))
-        → Back (t .undefined) (t .ok) (own t) (t .base) (t .block) (t .sp - 64) (t .helper16) (t .helperMem) p pl q (c .n) s0 (t .helper (inside k i c)) → Done t m rb
+        → ComesBack (c .n) (t .helper (inside k i c)) → Done t m rb
     helped-by k i c st ct kp r =
         let a : State = inside k i c in
         let h : State = t .helper a in
@@ -328,11 +368,12 @@ module _ (t : Turn) (m : GuestState) (rb : RegisterBytes) (ty : Typed t) (low : 
             log = (c .way .ws ++ c .call .ws) ++ (r .way .ws ++ []);
           };
           reply-is = re;
-          went = unfold s0 in helped (c .way .goes) (record { size = length (encode callRax); fetch = c .call .fetch; does = c .call .does })
-              (r .way .goes) (record { size = length (encode ret); fetch = r .fetch; does = r .does });
+          went = unfold s0 in helped (c .way .goes) (by-step t callRax (c .call .fetch) (c .call .does))
+              (r .way .goes) (by-step t ret (r .fetch) (r .does));
           at = unfold At Entered in (
             returns-by (r .w) (r .t) (suc (c .n) + suc (r .m)) ((c .way .ws ++ c .call .ws) ++ (r .way .ws ++ [])) _ (r .exit) (r .steps)
-                (all-append (own t) (c .way .ws ++ c .call .ws) (r .way .ws ++ []) (all-append (own t) (c .way .ws) (c .call .ws) (c .way .own) (c .call .own))
+                (all-append (own t) (c .way .ws ++ c .call .ws) (r .way .ws ++ [])
+                (all-append (own t) (c .way .ws) (c .call .ws) (c .way .own) (c .call .own))
                 (all-append (own t) (r .way .ws) [] (r .way .own) no-log)),
             record {
               h = k;
@@ -355,22 +396,21 @@ module _ (t : Turn) (m : GuestState) (rb : RegisterBytes) (ty : Typed t) (low : 
             },
           );
           m2 = record { registers = left .slots; pc = left .rax; count = 0 };
-          turned = unfold feed feedOf leftBy in turn-called (record { limit = t .limit; halfwords = t .halfwords; room = length (t .output); left = some left }) m k i left rf (unfold feedOf in st) refl;
+          turned = unfold feed feedOf leftBy in turn-called (fed left) m k i left rf (unfold feedOf in st) refl;
           pcs = r .exit .rax ∙ r .rax;
           counts = unfold plusRdx in refl;
-          slots = λ j l. sym (slot-shift (r .t .mem) (λ i. r .t .mem (t .base + i)) (t .base) j (ly .base-fits) l (λ i l. refl))
+          slots = λ j l. slot-after t (r .t .mem) j (ly .base-fits) l
               ∙ ap (λ (m : Memory). read 8 m (t .base + 8 * j)) (r .exit .same ∙ r .same);
           x0 = rw z (kp .x0);
           low = kp .rax;
         }
 
-    helped-done : (k : Helper) (i : ℕ)
-        → Calling (t .undefined) (t .ok) (own t) (t .base) (t .block) (t .sp - 64) (t .helper16) (t .helperMem) p pl q k i s0
+    helped-done : (k : Helper) (i : ℕ) → CallsHelper k i
         → q .stop ≡ called k i → b .count ≡ suc (q .added) → Done t m rb
     helped-done k i c st ct =
         let a : State = inside k i c in
-        let kp : Keeps t (length code) a (t .helper a) = en .helper (c .u) a (c .n) (c .way .ws) (c .call .ws) (from-s0 (c .u) (c .n) (c .way .ws) (c .way .goes))
-        (record { size = length (encode callRax); fetch = c .call .fetch; does = c .call .does }) in
+        let kp : Keeps t (length code) a (t .helper a) = en .helper (c .u) a (c .n) (c .way .ws) (c .call .ws)
+        (from-s0 (c .u) (c .n) (c .way .ws) (c .way .goes)) (by-step t callRax (c .call .fetch) (c .call .does)) in
         helped-by k i c st ct kp (c .back (t .helper a) (returned t code a (t .helper a) ly kp) (kp .rdx))
       where
         from-s0 : (u : State) (n : ℕ) (ws : List ℕ) → Steps t s0 n ws u → Steps t (enter t code rb) n ws u
@@ -387,15 +427,16 @@ module _ (t : Turn) (m : GuestState) (rb : RegisterBytes) (ty : Typed t) (low : 
 
         go : (e : End) → p .end ≡ e → EndOk (p .end) → Done t m rb
         go (goesOn pc) e o =
-            let l = goesOn-leaves (t .undefined) (t .ok) (own t) (t .base) (t .block) (t .sp - 64) (t .helper16) (t .helperMem) p pl pc (m .registers) q s0 e
-            (unfold EndOk in subst EndOk e o) (omega (arith, low-added)) entered-at agrees in
+            let l = goesOn-leaves (t .undefined) (t .ok) (own t) (t .base) (t .block) (t .sp - 64) (t .helper16) (t .helperMem) p pl
+            pc (m .registers) q s0 e (unfold EndOk in subst EndOk e o) (omega (arith, low-added)) entered-at agrees in
             plain-done (l .0) (l .1) (ct (goesOn pc) e ∙ (unfold counted in agreed .same))
         go jumped e o =
-            let l = jumped-leaves (t .undefined) (t .ok) (own t) (t .base) (t .block) (t .sp - 64) (t .helper16) (t .helperMem) p pl (m .registers) q s0 e
-            (omega (arith, low-added)) entered-at agrees in
+            let l = jumped-leaves (t .undefined) (t .ok) (own t) (t .base) (t .block) (t .sp - 64) (t .helper16) (t .helperMem) p pl
+            (m .registers) q s0 e (omega (arith, low-added)) entered-at agrees in
             plain-done (l .0) (l .1) (ct jumped e ∙ (unfold counted in agreed .same))
         go (calls k i pc) e o =
             let w : (i < 2 ^ 32) × (pc < 2 ^ 64) = unfold EndOk in subst EndOk e o in
-            let l = calls-leaves (t .undefined) (t .ok) (own t) (t .base) (t .block) (t .sp - 64) (t .helper16) (t .helperMem) p pl k i pc (m .registers) q s0 e
+            let l = calls-leaves (t .undefined) (t .ok) (own t) (t .base) (t .block) (t .sp - 64) (t .helper16) (t .helperMem) p pl
+            k i pc (m .registers) q s0 e
             (omega (arith, w .0)) (w .1) (ty .helper16) (ty .helperMem) (omega (arith, low-added)) entered-at agrees in
             helped-done k i (l .0) (l .1) (ct (calls k i pc) e ∙ (unfold counted in ap suc (agreed .same)))

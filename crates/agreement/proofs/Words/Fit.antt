@@ -111,10 +111,15 @@ pub fit-branch : (c : Branch) (p q n t : ℕ) → p < 32 → q < 32 → n < 2 ^ 
 unfolding Fine Ok AllTame Tame
 fit-branch c p q n t h k l m = omega arith
 
+-- a constant v put into the slot of d by way of a free register q, nothing where d is 0
+fit-keep : (d q v : ℕ) → T (free q) → q < 16 → d < 32 → v < 2 ^ 64
+    → Fit (cond (eqb d 0) [] (movImm64 q v ∷ store RBX (8 * d) q ∷ []))
+fit-keep d q v t k h l =
+    fit-if d (movImm64 q v ∷ store RBX (8 * d) q ∷ []) (λ n.
+    fit-append (movImm64 q v ∷ []) (store RBX (8 * d) q ∷ []) (fit-mov64 q v t k l) (fit-put d q h k n))
+
 pub fit-const : (d v : ℕ) → d < 32 → v < 2 ^ 64 → Fit (codeConst d v)
-fit-const d v h l =
-    fit-if d (movImm64 R10 v ∷ store RBX (8 * d) R10 ∷ []) (λ n.
-    fit-append (movImm64 R10 v ∷ []) (store RBX (8 * d) R10 ∷ []) (fit-mov64 R10 v tt (omega arith) l) (fit-put d R10 h (omega arith) n))
+fit-const d v h l = fit-keep d R10 v tt (omega arith) h l
 
 pub fit-jal : (d link target : ℕ) → d < 32 → link < 2 ^ 64 → target < 2 ^ 64 → Fit (codeJal d link target)
 fit-jal d link target h l k =
@@ -126,6 +131,5 @@ fit-jalr d p i link h k m l =
     (cond (eqb d 0) [] (movImm64 R11 link ∷ store RBX (8 * d) R11 ∷ []) ++ mov RAX R10 ∷ [])
     (unfold Fine Ok AllTame Tame in omega arith)
     (fit-append (cond (eqb d 0) [] (movImm64 R11 link ∷ store RBX (8 * d) R11 ∷ [])) (mov RAX R10 ∷ [])
-    (fit-if d (movImm64 R11 link ∷ store RBX (8 * d) R11 ∷ []) (λ n.
-    fit-append (movImm64 R11 link ∷ []) (store RBX (8 * d) R11 ∷ []) (fit-mov64 R11 link tt (omega arith) l) (fit-put d R11 h (omega arith) n)))
+    (fit-keep d R11 link tt (omega arith) h l)
     (unfold Fine Ok AllTame Tame in omega arith))

@@ -41,7 +41,11 @@ body-imm undefined ORI s a i I c d h k m n q e = record { rbx = refl; ten = rw (
 body-imm undefined ANDI s a i I c d h k m n q e = record { rbx = refl; ten = rw (e, q) (rw (mod-eq-of-lt h)); same = refl }
 body-imm undefined SLLI s a i I c d h k m n q e = record { rbx = refl; ten = rw e (rw (mod-eq-of-lt h, mod-eq-of-lt m)); same = refl }
 body-imm undefined SRLI s a i I c d h k m n q e = record { rbx = refl; ten = rw e (rw (mod-eq-of-lt h, mod-eq-of-lt m)); same = refl }
-body-imm undefined SRAI s a i I c d h k m n q e = record { rbx = refl; ten = rw e (rw (mod-eq-of-lt h, mod-eq-of-lt m) (sra-is a c h m)); same = refl }
+body-imm undefined SRAI s a i I c d h k m n q e = record {
+  rbx = refl;
+  ten = rw e (rw (mod-eq-of-lt h, mod-eq-of-lt m) (sra-is a c h m));
+  same = refl;
+}
 body-imm undefined ADDIW s a i I c d h k m n q e = record {
   rbx = refl;
   ten = rw (e, q) (rw (mod-eq-of-lt h) (word-is ((a + I) % 2 ^ 64) (a + I) (omega arith)));

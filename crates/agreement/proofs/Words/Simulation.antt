@@ -4,10 +4,9 @@ use mathlib.Core.List.{List, [], _∷_}
 use mathlib.Core.Path.{_≡_, ap, refl, subst, sym}
 use Prim.Native.Nat.{_+_, _<_, _^_, _≤_, suc, zero, ℕ}
 use native.Mathlib.Omega.{arith}
-use lib.Dec.{eqb}
 use Rattle.agreement.specs.Common.{Helper, Helper.forAccess, Helper.forHalfword}
 use Rattle.agreement.specs.Riscv.Fields.{opcode, plus, rd, rs1, rs2, shamt5, shamt6}
-use Rattle.agreement.specs.Riscv.Instruction.{Instruction, Instruction.AUIPC, Instruction.EBREAK, Instruction.ECALL, Instruction.FENCE, Instruction.FENCE·I, Instruction.JAL, Instruction.JALR, Instruction.LUI, Instruction.access, Instruction.branch, Instruction.op, Instruction.opImm, Instruction.opM, Instruction.other, valueOp, valueOpImm}
+use Rattle.agreement.specs.Riscv.Instruction.{Instruction, Instruction.AUIPC, Instruction.FENCE, Instruction.FENCE·I, Instruction.JAL, Instruction.JALR, Instruction.LUI, Instruction.access, Instruction.branch, Instruction.op, Instruction.opImm, Instruction.other, Instruction.unmodelled, valueOp, valueOpImm}
 use Rattle.agreement.specs.Riscv.Run.{Read, Registers, Stop, Stop.called, Stop.plain, does, halt, help, isLong, jump, oneMore, reading, taken, wordOf, writeX}
 use Rattle.agreement.specs.Translation.Emit.{codeBranch, codeConst, codeJal, codeJalr, codeOp, codeOpImm, compare, leftover, loadReg}
 use Rattle.agreement.specs.Translation.Kind.{kind}
@@ -15,13 +14,15 @@ use Rattle.agreement.specs.Translation.Walk.{End, End.calls, End.goesOn,
 use Rattle.agreement.specs.Turns.Machine.{History.end}
 use Rattle.agreement.specs.Turns.Premises.{Halfwords}
 use Rattle.agreement.specs.X86.Execute.{exec}
-use Rattle.agreement.specs.X86.Form.{Cc.B, Instr, R10, R11, RAX}
+use Rattle.agreement.specs.X86.Form.{Instr, R10, R11, RAX}
 use Rattle.agreement.specs.X86.State.{Flags, State}
 use Rattle.agreement.specs.X86.Step.{next, past}
+use Rattle.agreement.proofs.Checks.Cases.{Case.same}
 use Rattle.agreement.proofs.Host.Fetching.{one}
 use Rattle.agreement.proofs.Host.Straight.{run, run-append}
 use Rattle.agreement.proofs.Laws.Fields.{long-is, opcode-is, rd-is, rs1-is, rs2-is, shamt5-is, shamt6-is, wordOf-is}
 use Rattle.agreement.proofs.Laws.Immediates.{imm32-is, imm32-lt, immB-is, immI-lt, immJ-is, immU-is, immU-lt}
+use Rattle.agreement.proofs.Laws.Leftover.{leftover-by}
 use Rattle.agreement.proofs.Laws.Naming.{kind-is}
 use Rattle.agreement.proofs.Words.Fit.{Fit, fit-append, fit-branch, fit-compare, fit-const, fit-imm, fit-jal, fit-jalr, fit-load, fit-loads, fit-nil, fit-op}
 use Rattle.agreement.proofs.Words.Jumps.{Jumped, branch-jumps, const-slots, jal-jumps, jalr-jumps}
@@ -53,7 +54,7 @@ module _ (undefined : State → Flags) (b : ℕ) (fits : b + 256 ≤ 2 ^ 64) whe
   Idle x s is = Fit is × Slots b x (run undefined is s)
 
   left-over : (o r q : ℕ) → r < 32 → q < 32 → (x : Registers) (s : State) → Slots b x s → Idle x s (leftover o r q)
-  left-over o r q lr lq x s h = go (eqb o 0x63) (eqb o 0x33) (eqb o 0x3B) (eqb o 0x13) (eqb o 0x1B) refl refl refl refl refl
+  left-over o r q lr lq x s h = leftover-by (Idle x s) o r q o3 o2 o1 o0
     where
       o3 : Idle x s (compare r q)
       o3 = unfold Idle in (fit-compare r q lr lq, unfold run one past exec in record { base = h .base; slots = h .slots })
@@ -66,14 +67,6 @@ module _ (undefined : State → Flags) (b : ℕ) (fits : b + 256 ≤ 2 ^ 64) whe
 
       o0 : Idle x s []
       o0 = unfold Idle in (fit-nil, unfold run in h)
-
-      go : (a c d e f : Bool) → eqb o 0x63 ≡ a → eqb o 0x33 ≡ c → eqb o 0x3B ≡ d → eqb o 0x13 ≡ e → eqb o 0x1B ≡ f → Idle x s (leftover o r q)
-      go true c d e f p1 p2 p3 p4 p5 = unfold leftover in rw (p1, leftover) o3
-      go false true d e f p1 p2 p3 p4 p5 = unfold leftover in rw (p1, leftover) (rw p2 o2)
-      go false false true e f p1 p2 p3 p4 p5 = unfold leftover in rw (p1, leftover) (rw p2 (rw p3 o2))
-      go false false false true f p1 p2 p3 p4 p5 = unfold leftover in rw (p1, leftover) (rw p2 (rw p3 (rw p4 o1)))
-      go false false false false true p1 p2 p3 p4 p5 = unfold leftover in rw (p1, leftover) (rw p2 (rw p3 (rw p4 (rw p5 o1))))
-      go false false false false false p1 p2 p3 p4 p5 = unfold leftover in rw (p1, leftover) (rw p2 (rw p3 (rw p4 (rw p5 o0))))
 
   -- how a walk stops
   stopped : (pc : ℕ) (x : Registers) (s : State) → Slots b x s → Agree (stopsAt pc) (halt x pc) s
@@ -91,7 +84,8 @@ module _ (undefined : State → Flags) (b : ℕ) (fits : b + 256 ≤ 2 ^ 64) whe
           → Agree (record { code = leftover (opcode w) (rs1 w) (rs2 w); added = 0; end = goesOn pc }) (halt x pc) s
       by q = unfold Idle Next in record { fit = q .0; slots = q .1; same = refl; next = (refl, refl) }
 
-  jumping : (is : List Instr) (x : Registers) (pc : ℕ) (s : State) → Fit is → Jumped b x pc (run undefined is s) → Agree (jumps is) (jump x pc) s
+  jumping : (is : List Instr) (x : Registers) (pc : ℕ) (s : State) → Fit is
+      → Jumped b x pc (run undefined is s) → Agree (jumps is) (jump x pc) s
   unfolding Next
   jumping is x pc s f j = record { fit = f; slots = j .slots; same = refl; next = (j .rax, refl) }
 
@@ -115,7 +109,8 @@ module _ (undefined : State → Flags) (b : ℕ) (fits : b + 256 ≤ 2 ^ 64) whe
   agree-word (opImm o) pc w p x k s lw h f = rw (rd-is w, rs1-is w, shamt6-is w, shamt5-is w)
       (then (codeOpImm o (rd w) (rs1 w) (Decode32.imm32 w) (shamt6 w) (shamt5 w)) p
       (k (writeX x (rd w) (valueOpImm o (x (rs1 w)) (Manual.immI w) (shamt6 w) (shamt5 w)))) s
-      (fit-imm o (rd w) (rs1 w) (Decode32.imm32 w) (shamt6 w) (shamt5 w) (omega arith) (omega arith) (imm32-lt w) (omega arith) (omega arith))
+      (fit-imm o (rd w) (rs1 w) (Decode32.imm32 w) (shamt6 w) (shamt5 w)
+      (omega arith) (omega arith) (imm32-lt w) (omega arith) (omega arith))
       (f _ _ (opImm-slots undefined b fits o x s (rd w) (rs1 w) (Decode32.imm32 w) (Manual.immI w) (shamt6 w) (shamt5 w) h
       (omega arith) (omega arith) (immI-lt w) (omega arith) (omega arith) (imm32-is w lw))))
   agree-word LUI pc w p x k s lw h f = rw (immU-is w, rd-is w)
@@ -130,7 +125,8 @@ module _ (undefined : State → Flags) (b : ℕ) (fits : b + 256 ≤ 2 ^ 64) whe
   agree-word FENCE·I pc w p x k s lw h f = then [] p (k x) s fit-nil (unfold run in f x s h)
   agree-word (branch c) pc w p x k s lw h f = rw (immB-is w, rs1-is w, rs2-is w)
       (jumping (codeBranch c (rs1 w) (rs2 w) (plus pc 4) (plus pc (Manual.immB w))) x _ s
-      (fit-branch c (rs1 w) (rs2 w) (plus pc 4) (plus pc (Manual.immB w)) (omega arith) (omega arith) (plus-lt pc 4) (plus-lt pc (Manual.immB w)))
+      (fit-branch c (rs1 w) (rs2 w) (plus pc 4) (plus pc (Manual.immB w))
+      (omega arith) (omega arith) (plus-lt pc 4) (plus-lt pc (Manual.immB w)))
       (branch-jumps undefined b fits c x s (rs1 w) (rs2 w) (plus pc 4) (plus pc (Manual.immB w)) h (omega arith) (omega arith)))
   agree-word JAL pc w p x k s lw h f = rw (immJ-is w, rd-is w)
       (jumping (codeJal (rd w) (plus pc 4) (plus pc (Manual.immJ w))) (writeX x (rd w) (plus pc 4)) _ s
@@ -139,11 +135,10 @@ module _ (undefined : State → Flags) (b : ℕ) (fits : b + 256 ≤ 2 ^ 64) whe
   agree-word JALR pc w p x k s lw h f = rw (rd-is w, rs1-is w)
       (jumping (codeJalr (rd w) (rs1 w) (Decode32.imm32 w) (plus pc 4)) (writeX x (rd w) (plus pc 4)) _ s
       (fit-jalr (rd w) (rs1 w) (Decode32.imm32 w) (plus pc 4) (omega arith) (omega arith) (imm32-lt w) (plus-lt pc 4))
-      (jalr-jumps undefined b fits x s (rd w) (rs1 w) (Decode32.imm32 w) (Manual.immI w) (plus pc 4) h (omega arith) (omega arith) (imm32-is w lw) (plus-lt pc 4)))
+      (jalr-jumps undefined b fits x s (rd w) (rs1 w) (Decode32.imm32 w) (Manual.immI w) (plus pc 4) h
+      (omega arith) (omega arith) (imm32-is w lw) (plus-lt pc 4)))
   agree-word (access a) pc w p x k s lw h f = calling forAccess w pc x s h
-  agree-word (opM o) pc w p x k s lw h f = refusing pc w x s h
-  agree-word ECALL pc w p x k s lw h f = refusing pc w x s h
-  agree-word EBREAK pc w p x k s lw h f = refusing pc w x s h
+  agree-word (unmodelled o) pc w p x k s lw h f = refusing pc w x s h
   agree-word other pc w p x k s lw h f = refusing pc w x s h
 
   pub agree : (n pc : ℕ) (hs : List ℕ) (x : Registers) (s : State) → Halfwords hs → Slots b x s → Agree (walk n pc hs) (reading n pc hs x) s
@@ -162,7 +157,8 @@ module _ (undefined : State → Flags) (b : ℕ) (fits : b + 256 ≤ 2 ^ 64) whe
       by true = stopped pc x s h
       by false = calling forHalfword g pc x s h
   agree (suc n) pc (g ∷ u ∷ hs) x s l h =
-      subst A (sym (long-is g)) (subst (B (isLong g)) (sym (wordOf-is g u (l .0))) (by (isLong g) (λ x s. agree n (plus pc 4) hs x s (l .1 .1))))
+      subst A (sym (long-is g))
+      (subst (B (isLong g)) (sym (wordOf-is g u (l .0))) (by (isLong g) (λ x s. agree n (plus pc 4) hs x s (l .1 .1))))
     where
       w : ℕ
       w = wordOf g u
@@ -183,5 +179,6 @@ module _ (undefined : State → Flags) (b : ℕ) (fits : b + 256 ≤ 2 ^ 64) whe
       B t v = Agree (p t v) (q t) s
 
       by : (t : Bool) → ((x : Registers) (s : State) → Slots b x s → Agree (walk n (plus pc 4) hs) (reading n (plus pc 4) hs x) s) → B t w
-      by true f = rw (kind-is w) (agree-word (taken w) pc w (walk n (plus pc 4) hs) x (reading n (plus pc 4) hs) s (w-lt (l .0) (l .1 .0)) h f)
+      by true f =
+          rw (kind-is w) (agree-word (taken w) pc w (walk n (plus pc 4) hs) x (reading n (plus pc 4) hs) s (w-lt (l .0) (l .1 .0)) h f)
       by false f = calling forHalfword g pc x s h

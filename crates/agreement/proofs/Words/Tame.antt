@@ -7,13 +7,13 @@ use mathlib.Core.Path.{_∙_, _≡_, refl}
 use Prim.Native.Nat.{_+_, _/_, _<_, _^_, _≤_, ℕ}
 use native.Mathlib.Omega.{arith}
 use lib.Dec.{T, eqb}
-use Rattle.agreement.specs.X86.Execute.{exec, reads, result, writes}
+use Rattle.agreement.specs.X86.Execute.{accesses, exec, result}
 use Rattle.agreement.specs.X86.Flags.{sext}
 use Rattle.agreement.specs.X86.Form.{Alu, Alu.add, Alu.and, Alu.cmp, Alu.or, Alu.sub, Alu.xor, Instr, Instr.alu, Instr.aluImm32, Instr.aluImm8, Instr.callRax, Instr.cmov, Instr.imul, Instr.load, Instr.mov, Instr.movImm64, Instr.movsxd, Instr.movzx, Instr.pop, Instr.push, Instr.ret, Instr.setccAl, Instr.shiftCl, Instr.shiftImm8, Instr.store, R12, R13, R14, R15, RBP, RBX, RSP}
 use Rattle.agreement.specs.X86.Memory.{at, span}
 use Rattle.agreement.specs.X86.State.{Flags, Permissions, State, set}
 use Rattle.agreement.specs.X86.Step.{all, past}
-use Rattle.agreement.proofs.Host.Fetching.{one}
+use Rattle.agreement.proofs.Host.Fetching.{one, reads, writes}
 use Rattle.agreement.proofs.Host.Memory.{write-out}
 use Rattle.agreement.proofs.Host.Straight.{Safe, all-append, all-span, run, trace}
 use Rattle.agreement.proofs.Laws.Tests.{leb-no}
@@ -120,10 +120,13 @@ module _ (undefined : State → Flags) (b : ℕ) (fits : b + 256 ≤ 2 ^ 64) whe
 
   -- eight bytes of the registers
   slot-all : (P : ℕ → Bool) (lo o : ℕ) → ((i : ℕ) → lo ≤ i → i < 256 → P (b + i) ≡ true) → lo ≤ o → o ≤ 248 → all P (span 8 (b + o)) ≡ true
-  slot-all P lo o h k l = all-span P 8 (b + o) (omega arith) (λ i j. let z : at (b + o) i ≡ b + (o + i) = omega arith in rw z (h (o + i) (omega arith) (omega arith)))
+  slot-all P lo o h k l = all-span P 8 (b + o) (omega arith) (λ i j.
+      let z : at (b + o) i ≡ b + (o + i) = omega arith in
+      rw z (h (o + i) (omega arith) (omega arith)))
 
-  tame-reads : (P : ℕ → Bool) → ((i : ℕ) → i < 256 → P (b + i) ≡ true) → (i : Instr) (s : State) → s .regs 3 ≡ b → Tame i → all P (reads i s) ≡ true
-  unfolding Tame reads all
+  tame-reads : (P : ℕ → Bool) → ((i : ℕ) → i < 256 → P (b + i) ≡ true)
+      → (i : Instr) (s : State) → s .regs 3 ≡ b → Tame i → all P (reads i s) ≡ true
+  unfolding Tame accesses all
   tame-reads P h (push r) s e t = absurd t
   tame-reads P h (pop r) s e t = absurd t
   tame-reads P h (mov d r) s e t = refl
@@ -143,8 +146,9 @@ module _ (undefined : State → Flags) (b : ℕ) (fits : b + 256 ≤ 2 ^ 64) whe
   tame-reads P h callRax s e t = absurd t
   tame-reads P h ret s e t = absurd t
 
-  tame-writes : (P : ℕ → Bool) → ((i : ℕ) → 8 ≤ i → i < 256 → P (b + i) ≡ true) → (i : Instr) (s : State) → s .regs 3 ≡ b → Tame i → all P (writes i s) ≡ true
-  unfolding Tame writes all
+  tame-writes : (P : ℕ → Bool) → ((i : ℕ) → 8 ≤ i → i < 256 → P (b + i) ≡ true)
+      → (i : Instr) (s : State) → s .regs 3 ≡ b → Tame i → all P (writes i s) ≡ true
+  unfolding Tame accesses all
   tame-writes P h (push r) s e t = absurd t
   tame-writes P h (pop r) s e t = absurd t
   tame-writes P h (mov d r) s e t = refl
@@ -165,7 +169,10 @@ module _ (undefined : State → Flags) (b : ℕ) (fits : b + 256 ≤ 2 ^ 64) whe
   tame-writes P h ret s e t = absurd t
 
   mk : (s t : State) → Seven (s .regs) (t .regs) → t .mem ≡ s .mem → Within b s t
-  mk s t p q = record { saved = record { rbx = p .a3; rsp = p .a4; rbp = p .a5; r12 = p .a12; r13 = p .a13; r14 = p .a14; r15 = p .a15 }; outside = λ x f. rw q }
+  mk s t p q = record {
+    saved = record { rbx = p .a3; rsp = p .a4; rbp = p .a5; r12 = p .a12; r13 = p .a13; r14 = p .a14; r15 = p .a15 };
+    outside = λ x f. rw q;
+  }
 
   tame-one : (i : Instr) (s : State) → s .regs 3 ≡ b → Tame i → Within b s (one undefined i s)
   unfolding Tame one past exec
@@ -198,10 +205,13 @@ module _ (undefined : State → Flags) (b : ℕ) (fits : b + 256 ≤ 2 ^ 64) whe
   pub tame-run : (is : List Instr) (s : State) → s .regs 3 ≡ b → AllTame is → Within b s (run undefined is s)
   unfolding AllTame run
   tame-run [] s e t = mk s s (same7 (s .regs)) refl
-  tame-run (i ∷ is) s e t = let w = tame-one i s e (t .0) in through s (one undefined i s) _ w (tame-run is (one undefined i s) (w .saved .rbx ∙ e) (t .1))
+  tame-run (i ∷ is) s e t =
+      let w = tame-one i s e (t .0) in
+      through s (one undefined i s) _ w (tame-run is (one undefined i s) (w .saved .rbx ∙ e) (t .1))
 
   pub tame-safe : (ok : Permissions) → ((i : ℕ) → i < 256 → ok .read (b + i) ≡ true) → ((i : ℕ) → i < 256 → ok .write (b + i) ≡ true)
-      → (c n : ℕ) → c + n ≤ 2 ^ 64 → ((i j : ℕ) → i < n → j < 256 → c + i ≢ b + j) → (is : List Instr) (s : State) → s .regs 3 ≡ b → AllTame is → Safe undefined ok c n is s
+      → (c n : ℕ) → c + n ≤ 2 ^ 64 → ((i j : ℕ) → i < n → j < 256 → c + i ≢ b + j)
+      → (is : List Instr) (s : State) → s .regs 3 ≡ b → AllTame is → Safe undefined ok c n is s
   unfolding AllTame Safe
   tame-safe ok r w c n f a [] s e t = tt
   tame-safe ok r w c n f a (i ∷ is) s e t =
@@ -212,9 +222,12 @@ module _ (undefined : State → Flags) (b : ℕ) (fits : b + 256 ≤ 2 ^ 64) whe
         tame-safe ok r w c n f a is (one undefined i s) (v .saved .rbx ∙ e) (t .1),
       )
 
-  pub tame-trace : (P : ℕ → Bool) → ((i : ℕ) → 8 ≤ i → i < 256 → P (b + i) ≡ true) → (is : List Instr) (s : State) → s .regs 3 ≡ b → AllTame is → all P (trace undefined is s) ≡ true
+  pub tame-trace : (P : ℕ → Bool) → ((i : ℕ) → 8 ≤ i → i < 256 → P (b + i) ≡ true)
+      → (is : List Instr) (s : State) → s .regs 3 ≡ b → AllTame is
+      → all P (trace undefined is s) ≡ true
   unfolding AllTame trace
   tame-trace P h [] s e t = unfold all in refl
   tame-trace P h (i ∷ is) s e t =
       let w = tame-one i s e (t .0) in
-      all-append P (writes i s) (trace undefined is (one undefined i s)) (tame-writes P h i s e (t .0)) (tame-trace P h is (one undefined i s) (w .saved .rbx ∙ e) (t .1))
+      let s′ : State = one undefined i s in
+      all-append P (writes i s) (trace undefined is s′) (tame-writes P h i s e (t .0)) (tame-trace P h is s′ (w .saved .rbx ∙ e) (t .1))

@@ -1,5 +1,4 @@
--- The immediates of a word, as 64-bit two's complement numbers.
--- RISC-V Unprivileged manual (20191213), "Immediate Encoding Variants": bit 31 of the word is always the sign.
+-- The immediates of a word, in two's complement. RISC-V Unprivileged manual (20191213), "Immediate Encoding Variants".
 use Prim.Native.Nat.{ℕ, zero, suc, _+_, _-_, _*_, _/_, _^_}
 use Rattle.agreement.specs.Riscv.Fields.{bits}
 

@@ -1,6 +1,6 @@
 -- What an instruction is and what it computes: encoding and meaning of a family stand together.
 -- RISC-V Unprivileged manual (20191213): chapters RV32I, RV64I, Zifencei and M; rows from "RV32/64G Instruction Set Listings".
-use mathlib.Core.Bool.{Bool, true, false, not, cond}
+use mathlib.Core.Bool.{Bool, true, false, not, cond, _&&_}
 use mathlib.Core.List.{List, [], _∷_, _++_}
 use Prim.Native.Nat.{ℕ, zero, suc, _+_, _-_, _*_, _/_, _%_, _^_}
 use lib.Bits.{bitAnd, bitOr, bitXor}
@@ -16,9 +16,9 @@ use Rattle.agreement.specs.Riscv.Immediates.{signExtend}
 pub data Op : Type 0 where
   ADD SUB SLL SLT SLTU XOR SRL SRA OR AND ADDW SUBW SLLW SRLW SRAW MUL MULW : Op
 
--- the rest of M: named by its rows, without a meaning, since no run executes it
-pub data OpM : Type 0 where
-  MULH MULHSU MULHU DIV DIVU REM REMU DIVW DIVUW REMW REMUW : OpM
+-- named by its row, without a meaning, since no run executes it: the rest of M, and the environment calls
+pub data Unmodelled : Type 0 where
+  MULH MULHSU MULHU DIV DIVU REM REMU DIVW DIVUW REMW REMUW ECALL EBREAK : Unmodelled
 
 -- a register and an immediate: OP-IMM and OP-IMM-32
 pub data OpImm : Type 0 where
@@ -33,11 +33,11 @@ pub data Access : Type 0 where
 -- `other`: no instruction of these chapters
 pub data Instruction : Type 0 where
   op : Op → Instruction
-  opM : OpM → Instruction
   opImm : OpImm → Instruction
   branch : Branch → Instruction
   access : Access → Instruction
-  LUI AUIPC JAL JALR FENCE FENCE·I ECALL EBREAK other : Instruction
+  unmodelled : Unmodelled → Instruction
+  LUI AUIPC JAL JALR FENCE FENCE·I other : Instruction
 
 -- 2. Rows of the listing: what each asks of funct3, and of the bits above
 
@@ -75,13 +75,8 @@ topIs (wordIs n) s t w = eqb w n
 -- the first row that a word with these fields fits
 unfoldable pub find : ℕ → ℕ → ℕ → ℕ → ℕ → List Row → Instruction
 find o f s t w [] = other
-find o f s t w (r ∷ rs) = elim (eqb o (r .code)) [
-  | true ↦ elim (threeIs (r .three) f) [
-    | true ↦ elim (topIs (r .top) s t w) [ true ↦ r .name | false ↦ find o f s t w rs ]
-    | false ↦ find o f s t w rs
-  ]
-  | false ↦ find o f s t w rs
-]
+find o f s t w (r ∷ rs) =
+    cond (eqb o (r .code) && (threeIs (r .three) f && topIs (r .top) s t w)) (r .name) (find o f s t w rs)
 
 unfoldable pub findIn : List Row → ℕ → Instruction
 findIn rs w = find (opcode w) (funct3 w) (funct7 w) (funct6 w) w rs
@@ -113,22 +108,14 @@ shiftRightArithmetic (suc k) a c = a / 2 ^ c + a / 2 ^ k * (2 ^ suc k - 2 ^ (suc
 
 abbrev pub opRows : List Row
 opRows =
-    row (op ADD) 0x33 (funct3Is 0) (funct7Is 0x00)
-    ∷ row (op SUB) 0x33 (funct3Is 0) (funct7Is 0x20)
-    ∷ row (op SLL) 0x33 (funct3Is 1) (funct7Is 0x00)
-    ∷ row (op SLT) 0x33 (funct3Is 2) (funct7Is 0x00)
-    ∷ row (op SLTU) 0x33 (funct3Is 3) (funct7Is 0x00)
-    ∷ row (op XOR) 0x33 (funct3Is 4) (funct7Is 0x00)
-    ∷ row (op SRL) 0x33 (funct3Is 5) (funct7Is 0x00)
-    ∷ row (op SRA) 0x33 (funct3Is 5) (funct7Is 0x20)
-    ∷ row (op OR) 0x33 (funct3Is 6) (funct7Is 0x00)
-    ∷ row (op AND) 0x33 (funct3Is 7) (funct7Is 0x00)
-    ∷ row (op ADDW) 0x3B (funct3Is 0) (funct7Is 0x00)
-    ∷ row (op SUBW) 0x3B (funct3Is 0) (funct7Is 0x20)
-    ∷ row (op SLLW) 0x3B (funct3Is 1) (funct7Is 0x00)
-    ∷ row (op SRLW) 0x3B (funct3Is 5) (funct7Is 0x00)
-    ∷ row (op SRAW) 0x3B (funct3Is 5) (funct7Is 0x20)
-    ∷ row (op MUL) 0x33 (funct3Is 0) (funct7Is 0x01)
+    row (op ADD) 0x33 (funct3Is 0) (funct7Is 0x00) ∷ row (op SUB) 0x33 (funct3Is 0) (funct7Is 0x20)
+    ∷ row (op SLL) 0x33 (funct3Is 1) (funct7Is 0x00) ∷ row (op SLT) 0x33 (funct3Is 2) (funct7Is 0x00)
+    ∷ row (op SLTU) 0x33 (funct3Is 3) (funct7Is 0x00) ∷ row (op XOR) 0x33 (funct3Is 4) (funct7Is 0x00)
+    ∷ row (op SRL) 0x33 (funct3Is 5) (funct7Is 0x00) ∷ row (op SRA) 0x33 (funct3Is 5) (funct7Is 0x20)
+    ∷ row (op OR) 0x33 (funct3Is 6) (funct7Is 0x00) ∷ row (op AND) 0x33 (funct3Is 7) (funct7Is 0x00)
+    ∷ row (op ADDW) 0x3B (funct3Is 0) (funct7Is 0x00) ∷ row (op SUBW) 0x3B (funct3Is 0) (funct7Is 0x20)
+    ∷ row (op SLLW) 0x3B (funct3Is 1) (funct7Is 0x00) ∷ row (op SRLW) 0x3B (funct3Is 5) (funct7Is 0x00)
+    ∷ row (op SRAW) 0x3B (funct3Is 5) (funct7Is 0x20) ∷ row (op MUL) 0x33 (funct3Is 0) (funct7Is 0x01)
     ∷ row (op MULW) 0x3B (funct3Is 0) (funct7Is 0x01) ∷ []
 
 -- a: the value of rs1; b: the value of rs2. Shifts go by the low 6 bits of rs2, those of 32-bit words by the low 5.
@@ -153,37 +140,26 @@ valueOp MULW a b = word (a * b)
 
 abbrev pub opMRows : List Row
 opMRows =
-    row (opM MULH) 0x33 (funct3Is 1) (funct7Is 0x01)
-    ∷ row (opM MULHSU) 0x33 (funct3Is 2) (funct7Is 0x01)
-    ∷ row (opM MULHU) 0x33 (funct3Is 3) (funct7Is 0x01)
-    ∷ row (opM DIV) 0x33 (funct3Is 4) (funct7Is 0x01)
-    ∷ row (opM DIVU) 0x33 (funct3Is 5) (funct7Is 0x01)
-    ∷ row (opM REM) 0x33 (funct3Is 6) (funct7Is 0x01)
-    ∷ row (opM REMU) 0x33 (funct3Is 7) (funct7Is 0x01)
-    ∷ row (opM DIVW) 0x3B (funct3Is 4) (funct7Is 0x01)
-    ∷ row (opM DIVUW) 0x3B (funct3Is 5) (funct7Is 0x01)
-    ∷ row (opM REMW) 0x3B (funct3Is 6) (funct7Is 0x01)
-    ∷ row (opM REMUW) 0x3B (funct3Is 7) (funct7Is 0x01) ∷ []
+    row (unmodelled MULH) 0x33 (funct3Is 1) (funct7Is 0x01) ∷ row (unmodelled MULHSU) 0x33 (funct3Is 2) (funct7Is 0x01)
+    ∷ row (unmodelled MULHU) 0x33 (funct3Is 3) (funct7Is 0x01) ∷ row (unmodelled DIV) 0x33 (funct3Is 4) (funct7Is 0x01)
+    ∷ row (unmodelled DIVU) 0x33 (funct3Is 5) (funct7Is 0x01) ∷ row (unmodelled REM) 0x33 (funct3Is 6) (funct7Is 0x01)
+    ∷ row (unmodelled REMU) 0x33 (funct3Is 7) (funct7Is 0x01) ∷ row (unmodelled DIVW) 0x3B (funct3Is 4) (funct7Is 0x01)
+    ∷ row (unmodelled DIVUW) 0x3B (funct3Is 5) (funct7Is 0x01) ∷ row (unmodelled REMW) 0x3B (funct3Is 6) (funct7Is 0x01)
+    ∷ row (unmodelled REMUW) 0x3B (funct3Is 7) (funct7Is 0x01) ∷ []
 
 -- 5. A register and an immediate ("Integer Register-Immediate Instructions", RV32I and RV64I)
 
 abbrev pub opImmRows : List Row
 opImmRows =
-    row (opImm ADDI) 0x13 (funct3Is 0) anyTop
-    ∷ row (opImm SLTI) 0x13 (funct3Is 2) anyTop
-    ∷ row (opImm SLTIU) 0x13 (funct3Is 3) anyTop
-    ∷ row (opImm XORI) 0x13 (funct3Is 4) anyTop
-    ∷ row (opImm ORI) 0x13 (funct3Is 6) anyTop
-    ∷ row (opImm ANDI) 0x13 (funct3Is 7) anyTop
-    ∷ row (opImm SLLI) 0x13 (funct3Is 1) (funct6Is 0x00)
-    ∷ row (opImm SRLI) 0x13 (funct3Is 5) (funct6Is 0x00)
-    ∷ row (opImm SRAI) 0x13 (funct3Is 5) (funct6Is 0x10)
-    ∷ row (opImm ADDIW) 0x1B (funct3Is 0) anyTop
-    ∷ row (opImm SLLIW) 0x1B (funct3Is 1) (funct7Is 0x00)
-    ∷ row (opImm SRLIW) 0x1B (funct3Is 5) (funct7Is 0x00)
+    row (opImm ADDI) 0x13 (funct3Is 0) anyTop ∷ row (opImm SLTI) 0x13 (funct3Is 2) anyTop
+    ∷ row (opImm SLTIU) 0x13 (funct3Is 3) anyTop ∷ row (opImm XORI) 0x13 (funct3Is 4) anyTop
+    ∷ row (opImm ORI) 0x13 (funct3Is 6) anyTop ∷ row (opImm ANDI) 0x13 (funct3Is 7) anyTop
+    ∷ row (opImm SLLI) 0x13 (funct3Is 1) (funct6Is 0x00) ∷ row (opImm SRLI) 0x13 (funct3Is 5) (funct6Is 0x00)
+    ∷ row (opImm SRAI) 0x13 (funct3Is 5) (funct6Is 0x10) ∷ row (opImm ADDIW) 0x1B (funct3Is 0) anyTop
+    ∷ row (opImm SLLIW) 0x1B (funct3Is 1) (funct7Is 0x00) ∷ row (opImm SRLIW) 0x1B (funct3Is 5) (funct7Is 0x00)
     ∷ row (opImm SRAIW) 0x1B (funct3Is 5) (funct7Is 0x20) ∷ []
 
--- a: the value of rs1; i: the I immediate; c: the shift amount of funct6Is bits, d: of five
+-- a: the value of rs1; i: the I immediate; c: the shift amount of six bits, d: of five
 unfoldable pub valueOpImm : OpImm → ℕ → ℕ → ℕ → ℕ → ℕ
 valueOpImm ADDI a i c d = (a + i) % 2 ^ 64
 valueOpImm SLTI a i c d = oneIf (less a i)
@@ -203,12 +179,9 @@ valueOpImm SRAIW a i c d = word (shiftRightArithmetic 32 (a % 2 ^ 32) d)
 
 abbrev pub branchRows : List Row
 branchRows =
-    row (branch BEQ) 0x63 (funct3Is 0) anyTop
-    ∷ row (branch BNE) 0x63 (funct3Is 1) anyTop
-    ∷ row (branch BLT) 0x63 (funct3Is 4) anyTop
-    ∷ row (branch BGE) 0x63 (funct3Is 5) anyTop
-    ∷ row (branch BLTU) 0x63 (funct3Is 6) anyTop
-    ∷ row (branch BGEU) 0x63 (funct3Is 7) anyTop ∷ []
+    row (branch BEQ) 0x63 (funct3Is 0) anyTop ∷ row (branch BNE) 0x63 (funct3Is 1) anyTop
+    ∷ row (branch BLT) 0x63 (funct3Is 4) anyTop ∷ row (branch BGE) 0x63 (funct3Is 5) anyTop
+    ∷ row (branch BLTU) 0x63 (funct3Is 6) anyTop ∷ row (branch BGEU) 0x63 (funct3Is 7) anyTop ∷ []
 
 unfoldable pub branches : Branch → ℕ → ℕ → Bool
 branches BEQ a b = eqb a b
@@ -222,31 +195,21 @@ branches BGEU a b = not (ltb a b)
 
 abbrev pub accessRows : List Row
 accessRows =
-    row (access LB) 0x03 (funct3Is 0) anyTop
-    ∷ row (access LH) 0x03 (funct3Is 1) anyTop
-    ∷ row (access LW) 0x03 (funct3Is 2) anyTop
-    ∷ row (access LD) 0x03 (funct3Is 3) anyTop
-    ∷ row (access LBU) 0x03 (funct3Is 4) anyTop
-    ∷ row (access LHU) 0x03 (funct3Is 5) anyTop
-    ∷ row (access LWU) 0x03 (funct3Is 6) anyTop
-    ∷ row (access SB) 0x23 (funct3Is 0) anyTop
-    ∷ row (access SH) 0x23 (funct3Is 1) anyTop
-    ∷ row (access SW) 0x23 (funct3Is 2) anyTop
+    row (access LB) 0x03 (funct3Is 0) anyTop ∷ row (access LH) 0x03 (funct3Is 1) anyTop ∷ row (access LW) 0x03 (funct3Is 2) anyTop
+    ∷ row (access LD) 0x03 (funct3Is 3) anyTop ∷ row (access LBU) 0x03 (funct3Is 4) anyTop
+    ∷ row (access LHU) 0x03 (funct3Is 5) anyTop ∷ row (access LWU) 0x03 (funct3Is 6) anyTop
+    ∷ row (access SB) 0x23 (funct3Is 0) anyTop ∷ row (access SH) 0x23 (funct3Is 1) anyTop ∷ row (access SW) 0x23 (funct3Is 2) anyTop
     ∷ row (access SD) 0x23 (funct3Is 3) anyTop ∷ []
 
--- FENCE.TSO and PAUSE are words of FENCE's row. The other fields of FENCE and FENCE.I are free: "base implementations
--- shall ignore these fields".
+-- FENCE.TSO and PAUSE are words of FENCE's row; the fences' other fields are free ("shall ignore these fields")
 abbrev pub singleRows : List Row
 singleRows =
-    row LUI 0x37 anyThree anyTop
-    ∷ row AUIPC 0x17 anyThree anyTop
-    ∷ row JAL 0x6F anyThree anyTop
-    ∷ row JALR 0x67 (funct3Is 0) anyTop
-    ∷ row FENCE 0x0F (funct3Is 0) anyTop
-    ∷ row FENCE·I 0x0F (funct3Is 1) anyTop ∷ []
+    row LUI 0x37 anyThree anyTop ∷ row AUIPC 0x17 anyThree anyTop ∷ row JAL 0x6F anyThree anyTop
+    ∷ row JALR 0x67 (funct3Is 0) anyTop ∷ row FENCE 0x0F (funct3Is 0) anyTop ∷ row FENCE·I 0x0F (funct3Is 1) anyTop ∷ []
 
 abbrev pub environmentRows : List Row
-environmentRows = row ECALL 0x73 (funct3Is 0) (wordIs 0x00000073) ∷ row EBREAK 0x73 (funct3Is 0) (wordIs 0x00100073) ∷ []
+environmentRows =
+    row (unmodelled ECALL) 0x73 (funct3Is 0) (wordIs 0x00000073) ∷ row (unmodelled EBREAK) 0x73 (funct3Is 0) (wordIs 0x00100073) ∷ []
 
 -- 8. The listing: RV32I, RV64I, Zifencei and M
 

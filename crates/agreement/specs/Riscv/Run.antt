@@ -8,7 +8,7 @@ use lib.Dec.{ltb, eqb}
 use Rattle.agreement.specs.Common.{greatest, mostSteps, Helper, Helper.forHalfword, Helper.forAccess}
 use Rattle.agreement.specs.Riscv.Fields.{rd, rs1, rs2, shamt6, shamt5, plus}
 use Rattle.agreement.specs.Riscv.Immediates.{immI, immB, immJ, immU}
-use Rattle.agreement.specs.Riscv.Instruction.{Instruction, Instruction.op, Instruction.opM, Instruction.opImm, Instruction.branch, Instruction.access, Instruction.LUI, Instruction.AUIPC, Instruction.JAL, Instruction.JALR, Instruction.FENCE, Instruction.FENCE·I, Instruction.ECALL, Instruction.EBREAK, Instruction.other, Three.anyThree, Top.anyTop, Row, row, findIn, listing, valueOp, valueOpImm, branches}
+use Rattle.agreement.specs.Riscv.Instruction.{Instruction, Instruction.op, Instruction.opImm, Instruction.branch, Instruction.access, Instruction.unmodelled, Instruction.LUI, Instruction.AUIPC, Instruction.JAL, Instruction.JALR, Instruction.FENCE, Instruction.FENCE·I, Instruction.other, Three.anyThree, Top.anyTop, Row, row, findIn, listing, valueOp, valueOpImm, branches}
 
 -- x0 to x31 by number
 abbrev pub Registers : Type 0
@@ -19,7 +19,6 @@ Registers = ℕ → ℕ
 -- not taken: the rest of M, and the environment calls. This choice and `reservedRows` are document 01's, not the manual's.
 abbrev pub chosen : Instruction → Bool
 chosen (op o) = true
-chosen (opM o) = false
 chosen (opImm o) = true
 chosen (branch c) = true
 chosen (access a) = true
@@ -29,8 +28,7 @@ chosen JAL = true
 chosen JALR = true
 chosen FENCE = true
 chosen FENCE·I = true
-chosen ECALL = false
-chosen EBREAK = false
+chosen (unmodelled u) = false
 chosen other = false
 
 abbrev pub chosenRows : List Row → List Row
@@ -98,9 +96,7 @@ does JAL pc w x rest = jump (writeX x (rd w) (plus pc 4)) (plus pc (immJ w))
 -- "then setting the least-significant bit of the result to zero"
 does JALR pc w x rest = jump (writeX x (rd w) (plus pc 4)) (plus (x (rs1 w)) (immI w) / 2 * 2)
 does (access a) pc w x rest = help x pc forAccess w
-does (opM o) pc w x rest = halt x pc
-does ECALL pc w x rest = halt x pc
-does EBREAK pc w x rest = halt x pc
+does (unmodelled u) pc w x rest = halt x pc
 does other pc w x rest = halt x pc
 
 -- at most n instructions, read from the run of halfwords that stands at pc

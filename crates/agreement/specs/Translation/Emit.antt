@@ -1,6 +1,6 @@
 -- The host instructions for a word: the Rust's `emit_native_instr_x64`, its prologue, epilogue and helper ends.
 -- Document 01, "Block bytes". RBX holds the registers' address, guest register r is at RBX + 8r; R10, R11, RCX and AL work.
-use mathlib.Core.Bool.{true, false, cond}
+use mathlib.Core.Bool.{cond}
 use mathlib.Core.List.{List, [], _∷_, _++_}
 use Prim.Native.Nat.{ℕ, _-_, _*_, _^_}
 use lib.Dec.{eqb}
@@ -88,19 +88,11 @@ codeBranch c rs1 rs2 next target =
 -- what a refused word leaves behind, by its opcode: the Rust loads (and compares) before it tests funct3 and funct7
 unfoldable pub leftover : ℕ → ℕ → ℕ → List Instr
 leftover o rs1 rs2 =
-    elim (eqb o 0x63) [
-      | true ↦ compare rs1 rs2
-      | false ↦ elim (eqb o 0x33) [
-        | true ↦ loadReg R10 rs1 ∷ loadReg R11 rs2 ∷ []
-        | false ↦ elim (eqb o 0x3B) [
-          | true ↦ loadReg R10 rs1 ∷ loadReg R11 rs2 ∷ []
-          | false ↦ elim (eqb o 0x13) [
-            | true ↦ loadReg R10 rs1 ∷ []
-            | false ↦ elim (eqb o 0x1B) [ true ↦ loadReg R10 rs1 ∷ [] | false ↦ [] ]
-          ]
-        ]
-      ]
-    ]
+    cond (eqb o 0x63) (compare rs1 rs2) (
+    cond (eqb o 0x33) (loadReg R10 rs1 ∷ loadReg R11 rs2 ∷ []) (
+    cond (eqb o 0x3B) (loadReg R10 rs1 ∷ loadReg R11 rs2 ∷ []) (
+    cond (eqb o 0x13) (loadReg R10 rs1 ∷ []) (
+    cond (eqb o 0x1B) (loadReg R10 rs1 ∷ []) []))))
 
 -- x64_emit_prologue; the 8 bytes keep the stack pointer a multiple of 16 at a call
 abbrev pub opening : List Instr

@@ -1,7 +1,6 @@
--- Which words the translator takes, and for which instruction: the nested matches of the Rust's `emit_native_instr_x64`,
--- and behind them those of `emit_native_term_mem_helper_x64`, on the fields of `decode32`. Numbers from src/isa.rs:
--- funct7 0x00 is F7_BASE, 0x20 F7_SUB_SRA, 0x01 F7_MULDIV.
-use mathlib.Core.Bool.{true, false}
+-- Which words the translator takes: the nested matches of the Rust's `emit_native_instr_x64`, and behind them those of
+-- `emit_native_term_mem_helper_x64`. Numbers from src/isa.rs: funct7 0x00 is F7_BASE, 0x20 F7_SUB_SRA, 0x01 F7_MULDIV.
+use mathlib.Core.Bool.{cond}
 use mathlib.Core.List.{List, [], _∷_}
 use Prim.Native.Nat.{ℕ}
 use lib.Dec.{eqb}
@@ -20,66 +19,43 @@ _⇒_ p v = record { pattern = p; value = v }
 -- the arms in order; where none fits, `_ => return None`: the word is not taken
 unfoldable pub match : ℕ → List Arm → Instruction
 match n [] = other
-match n (a ∷ as′) = elim (eqb n (a .pattern)) [ true ↦ a .value | false ↦ match n as′ ]
+match n (a ∷ arms) = cond (eqb n (a .pattern)) (a .value) (match n arms)
 
 -- OPCODE_OP: the Rust matches on the pair of funct7 and funct3; here funct3 = f, then funct7 = s
 unfoldable pub kindOp : ℕ → ℕ → Instruction
 kindOp f s = match f (
-    0 ⇒ match s (0x00 ⇒ op ADD ∷ 0x20 ⇒ op SUB ∷ 0x01 ⇒ op MUL ∷ [])
-    ∷ 1 ⇒ match s (0x00 ⇒ op SLL ∷ [])
-    ∷ 2 ⇒ match s (0x00 ⇒ op SLT ∷ [])
-    ∷ 3 ⇒ match s (0x00 ⇒ op SLTU ∷ [])
-    ∷ 4 ⇒ match s (0x00 ⇒ op XOR ∷ [])
-    ∷ 5 ⇒ match s (0x00 ⇒ op SRL ∷ 0x20 ⇒ op SRA ∷ [])
-    ∷ 6 ⇒ match s (0x00 ⇒ op OR ∷ [])
+    0 ⇒ match s (0x00 ⇒ op ADD ∷ 0x20 ⇒ op SUB ∷ 0x01 ⇒ op MUL ∷ []) ∷ 1 ⇒ match s (0x00 ⇒ op SLL ∷ [])
+    ∷ 2 ⇒ match s (0x00 ⇒ op SLT ∷ []) ∷ 3 ⇒ match s (0x00 ⇒ op SLTU ∷ []) ∷ 4 ⇒ match s (0x00 ⇒ op XOR ∷ [])
+    ∷ 5 ⇒ match s (0x00 ⇒ op SRL ∷ 0x20 ⇒ op SRA ∷ []) ∷ 6 ⇒ match s (0x00 ⇒ op OR ∷ [])
     ∷ 7 ⇒ match s (0x00 ⇒ op AND ∷ []) ∷ [])
 
 -- OPCODE_OP_32
 unfoldable pub kindOp32 : ℕ → ℕ → Instruction
 kindOp32 f s = match f (
-    0 ⇒ match s (0x00 ⇒ op ADDW ∷ 0x20 ⇒ op SUBW ∷ 0x01 ⇒ op MULW ∷ [])
-    ∷ 1 ⇒ match s (0x00 ⇒ op SLLW ∷ [])
+    0 ⇒ match s (0x00 ⇒ op ADDW ∷ 0x20 ⇒ op SUBW ∷ 0x01 ⇒ op MULW ∷ []) ∷ 1 ⇒ match s (0x00 ⇒ op SLLW ∷ [])
     ∷ 5 ⇒ match s (0x00 ⇒ op SRLW ∷ 0x20 ⇒ op SRAW ∷ []) ∷ [])
 
 -- OPCODE_OP_IMM, the shifts by imm_hi = t
 unfoldable pub kindOpImm : ℕ → ℕ → Instruction
 kindOpImm f t = match f (
-    0 ⇒ opImm ADDI
-    ∷ 2 ⇒ opImm SLTI
-    ∷ 3 ⇒ opImm SLTIU
-    ∷ 4 ⇒ opImm XORI
-    ∷ 6 ⇒ opImm ORI
-    ∷ 7 ⇒ opImm ANDI
-    ∷ 1 ⇒ match t (0x00 ⇒ opImm SLLI ∷ [])
-    ∷ 5 ⇒ match t (0x00 ⇒ opImm SRLI ∷ 0x10 ⇒ opImm SRAI ∷ []) ∷ [])
+    0 ⇒ opImm ADDI ∷ 2 ⇒ opImm SLTI ∷ 3 ⇒ opImm SLTIU ∷ 4 ⇒ opImm XORI ∷ 6 ⇒ opImm ORI ∷ 7 ⇒ opImm ANDI
+    ∷ 1 ⇒ match t (0x00 ⇒ opImm SLLI ∷ []) ∷ 5 ⇒ match t (0x00 ⇒ opImm SRLI ∷ 0x10 ⇒ opImm SRAI ∷ []) ∷ [])
 
 -- OPCODE_OP_IMM_32
 unfoldable pub kindOpImm32 : ℕ → ℕ → Instruction
 kindOpImm32 f s = match f (
-    0 ⇒ opImm ADDIW
-    ∷ 1 ⇒ match s (0x00 ⇒ opImm SLLIW ∷ [])
+    0 ⇒ opImm ADDIW ∷ 1 ⇒ match s (0x00 ⇒ opImm SLLIW ∷ [])
     ∷ 5 ⇒ match s (0x00 ⇒ opImm SRLIW ∷ 0x20 ⇒ opImm SRAIW ∷ []) ∷ [])
 
 -- OPCODE_BRANCH
 unfoldable pub kindBranch : ℕ → Instruction
 kindBranch f = match f (
-    0 ⇒ branch BEQ
-    ∷ 1 ⇒ branch BNE
-    ∷ 4 ⇒ branch BLT
-    ∷ 5 ⇒ branch BGE
-    ∷ 6 ⇒ branch BLTU
-    ∷ 7 ⇒ branch BGEU ∷ [])
+    0 ⇒ branch BEQ ∷ 1 ⇒ branch BNE ∷ 4 ⇒ branch BLT ∷ 5 ⇒ branch BGE ∷ 6 ⇒ branch BLTU ∷ 7 ⇒ branch BGEU ∷ [])
 
 -- OPCODE_LOAD and OPCODE_STORE, which go to the helper
 unfoldable pub kindLoad : ℕ → Instruction
 kindLoad f = match f (
-    0 ⇒ access LB
-    ∷ 1 ⇒ access LH
-    ∷ 2 ⇒ access LW
-    ∷ 3 ⇒ access LD
-    ∷ 4 ⇒ access LBU
-    ∷ 5 ⇒ access LHU
-    ∷ 6 ⇒ access LWU ∷ [])
+    0 ⇒ access LB ∷ 1 ⇒ access LH ∷ 2 ⇒ access LW ∷ 3 ⇒ access LD ∷ 4 ⇒ access LBU ∷ 5 ⇒ access LHU ∷ 6 ⇒ access LWU ∷ [])
 
 unfoldable pub kindStore : ℕ → Instruction
 kindStore f = match f (0 ⇒ access SB ∷ 1 ⇒ access SH ∷ 2 ⇒ access SW ∷ 3 ⇒ access SD ∷ [])
@@ -91,17 +67,8 @@ kindFence f = match f (0 ⇒ FENCE ∷ 1 ⇒ FENCE·I ∷ [])
 -- opcode, funct3, funct7, imm_hi; JALR is taken with any funct3
 unfoldable pub kindOf : ℕ → ℕ → ℕ → ℕ → Instruction
 kindOf o f s t = match o (
-    0x37 ⇒ LUI
-    ∷ 0x17 ⇒ AUIPC
-    ∷ 0x6F ⇒ JAL
-    ∷ 0x67 ⇒ JALR
-    ∷ 0x63 ⇒ kindBranch f
-    ∷ 0x13 ⇒ kindOpImm f t
-    ∷ 0x1B ⇒ kindOpImm32 f s
-    ∷ 0x33 ⇒ kindOp f s
-    ∷ 0x3B ⇒ kindOp32 f s
-    ∷ 0x0F ⇒ kindFence f
-    ∷ 0x03 ⇒ kindLoad f
+    0x37 ⇒ LUI ∷ 0x17 ⇒ AUIPC ∷ 0x6F ⇒ JAL ∷ 0x67 ⇒ JALR ∷ 0x63 ⇒ kindBranch f ∷ 0x13 ⇒ kindOpImm f t
+    ∷ 0x1B ⇒ kindOpImm32 f s ∷ 0x33 ⇒ kindOp f s ∷ 0x3B ⇒ kindOp32 f s ∷ 0x0F ⇒ kindFence f ∷ 0x03 ⇒ kindLoad f
     ∷ 0x23 ⇒ kindStore f ∷ [])
 
 unfoldable pub kind : ℕ → Instruction

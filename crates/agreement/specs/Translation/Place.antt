@@ -29,8 +29,7 @@ place n size used =
       | false ↦ elim (ltb size (roundUp used + n)) [ true ↦ full | false ↦ placed (roundUp used) (roundUp used + n) ]
     ]
 
--- store and mark after placing code of the length that was asked for: the code at the offset and all else as before, or
--- both as before
+-- store and mark after placing code of that length: the code at the offset and all else as before, or both as before
 unfoldable pub storeAfter : Placing → List ℕ → List ℕ → List ℕ
 storeAfter (placed offset newMark) code store = take offset store ++ (code ++ drop newMark store)
 storeAfter beyond code store = store

@@ -6,7 +6,7 @@ use lib.Bits.{bitAnd}
 use lib.ListN.{length, drop}
 use lib.Dec.{ltb, eqb}
 use Rattle.agreement.specs.Common.{greatest, mostSteps}
-use Rattle.agreement.specs.Riscv.Instruction.{Instruction, Instruction.op, Instruction.opM, Instruction.opImm, Instruction.branch, Instruction.access, Instruction.LUI, Instruction.AUIPC, Instruction.JAL, Instruction.JALR, Instruction.FENCE, Instruction.FENCE·I, Instruction.ECALL, Instruction.EBREAK, Instruction.other}
+use Rattle.agreement.specs.Riscv.Instruction.{Instruction, Instruction.op, Instruction.opImm, Instruction.branch, Instruction.access, Instruction.unmodelled, Instruction.LUI, Instruction.AUIPC, Instruction.JAL, Instruction.JALR, Instruction.FENCE, Instruction.FENCE·I, Instruction.other}
 use Rattle.agreement.specs.X86.Encode.{bytes}
 use Rattle.agreement.specs.Translation.Decode32.{wordOf}
 use Rattle.agreement.specs.Translation.Kind.{kind}
@@ -16,8 +16,7 @@ pub record Block : Type 0 where
   pub code : List ℕ
   pub count : ℕ
 
--- limit 0; odd start, with it; the first word lacks the halfword of that index; the first word, which is not taken;
--- output too short
+-- limit 0; odd start; the first word lacks the halfword of that index; the first word is not taken; output too short
 pub data Refusal : Type 0 where
   limitZero : Refusal
   oddStart : ℕ → Refusal
@@ -52,7 +51,6 @@ pub data First : Type 0 where
 
 unfoldable pub firstWord : Instruction → ℕ → First
 firstWord (op o) w = begins
-firstWord (opM o) w = refuses w
 firstWord (opImm o) w = begins
 firstWord (branch c) w = begins
 firstWord (access a) w = begins
@@ -62,8 +60,7 @@ firstWord JAL w = begins
 firstWord JALR w = begins
 firstWord FENCE w = begins
 firstWord FENCE·I w = begins
-firstWord ECALL w = refuses w
-firstWord EBREAK w = refuses w
+firstWord (unmodelled u) w = refuses w
 firstWord other w = refuses w
 
 unfoldable pub first : List ℕ → First

@@ -5,7 +5,7 @@ use Prim.Native.Nat.{ℕ, zero, suc}
 use lib.Bits.{bitAnd}
 use lib.Dec.{eqb}
 use Rattle.agreement.specs.Common.{Helper, Helper.forHalfword, Helper.forAccess}
-use Rattle.agreement.specs.Riscv.Instruction.{Instruction, Instruction.op, Instruction.opM, Instruction.opImm, Instruction.branch, Instruction.access, Instruction.LUI, Instruction.AUIPC, Instruction.JAL, Instruction.JALR, Instruction.FENCE, Instruction.FENCE·I, Instruction.ECALL, Instruction.EBREAK, Instruction.other}
+use Rattle.agreement.specs.Riscv.Instruction.{Instruction, Instruction.op, Instruction.opImm, Instruction.branch, Instruction.access, Instruction.unmodelled, Instruction.LUI, Instruction.AUIPC, Instruction.JAL, Instruction.JALR, Instruction.FENCE, Instruction.FENCE·I, Instruction.other}
 use Rattle.agreement.specs.X86.Form.{RAX, RDX, Instr, Instr.movImm64, Instr.callRax, Instr.ret}
 use Rattle.agreement.specs.Translation.Decode32.{wordOf, opcode, rd, rs1, rs2, imm32, shamt, shamtW, immB, immU, immJ, wrappingAdd}
 use Rattle.agreement.specs.Translation.Kind.{kind}
@@ -51,9 +51,7 @@ emit (branch c) pc w p = jumps (codeBranch c (rs1 w) (rs2 w) (wrappingAdd pc 4) 
 emit JAL pc w p = jumps (codeJal (rd w) (wrappingAdd pc 4) (wrappingAdd pc (immJ w)))
 emit JALR pc w p = jumps (codeJalr (rd w) (rs1 w) (imm32 w) (wrappingAdd pc 4))
 emit (access a) pc w p = helps forAccess w pc
-emit (opM o) pc w p = refusedAt pc w
-emit ECALL pc w p = refusedAt pc w
-emit EBREAK pc w p = refusedAt pc w
+emit (unmodelled u) pc w p = refusedAt pc w
 emit other pc w p = refusedAt pc w
 
 -- at most n instructions of the halfwords that stand at pc; a compressed one needs no second halfword

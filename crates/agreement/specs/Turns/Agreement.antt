@@ -1,5 +1,4 @@
--- The statement of demand 3: the machine's history over every list of turns beside the manual's run.
--- Document 01, "The manual's run in demand 3", "What is equal to it".
+-- The statement of demand 3: the machine's history beside the manual's run. Document 01, "What is equal to it".
 use mathlib.Core.Path.{_≡_}
 use mathlib.Core.Bool.{Bool, true, false, _&&_, _||_}
 use mathlib.Core.List.{List, [], _∷_}
@@ -24,12 +23,7 @@ leftBy t none = none
 leftBy t (some c) = some (record { slots = λ r. read 8 (c .back .mem) (t .base + 8 * r); rax = c .back .regs RAX })
 
 unfoldable pub feedOf : Turn → Option Call → Feed
-feedOf t c = record {
-  limit = t .limit;
-  halfwords = t .halfwords;
-  room = length (t .output);
-  left = leftBy t c;
-}
+feedOf t c = record { limit = t .limit; halfwords = t .halfwords; room = length (t .output); left = leftBy t c }
 
 unfoldable pub feed : Turn → Event → Feed
 feed t (rejected pc r) = feedOf t none
@@ -128,18 +122,14 @@ Along m (t ∷ ts) (e ∷ es) = At m t e × Along (turn (feed t e) m) ts es
 abbrev pub after : ℕ → RegisterBytes → List Turn → List Event → GuestState
 after pc rb ts es = manual (feeds ts es) (start pc rb)
 
-pub record Same (es fs : List Event) (pc pc′ : ℕ) (rb rb′ : RegisterBytes) : Type 0 where
-  pub events : es ≡ fs
-  pub pcs : pc ≡ pc′
-  pub bytes : rb ≡ rb′
-
 pub record Agrees (pc : ℕ) (rb : RegisterBytes) (ts : List Turn) : Type 0 where
   -- there is a history, every entry running to its return, and no other
   pub events : List Event
   pub pc′ : ℕ
   pub rb′ : RegisterBytes
   pub history : History pc rb ts events pc′ rb′
-  pub only : (es : List Event) (p : ℕ) (b : RegisterBytes) → History pc rb ts es p b → Same events es pc′ p rb′ b
+  pub only : (es : List Event) (p : ℕ) (b : RegisterBytes)
+      → History pc rb ts es p b → (events ≡ es) × (pc′ ≡ p) × (rb′ ≡ b)
   -- at its end pc, slots and the sum of RDX since the last helper are the manual's run's pc, registers and count
   pub at-pc : pc′ ≡ after pc rb ts events .pc
   pub at-slots : (r : ℕ) → r < 32 → read 8 rb′ (8 * r) ≡ after pc rb ts events .registers r

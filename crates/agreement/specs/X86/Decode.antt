@@ -1,8 +1,7 @@
 -- What a reader of the SDM makes of bytes: an optional REX prefix, the opcode, ModRM, SIB, displacement, immediate.
 -- Intel SDM volume 2, "Instruction Format", "REX Prefixes", "ModR/M and SIB Bytes" and the page of each mnemonic.
--- It is written from those rules and does not look at the encoder. It takes the forms of Form alone, and of several
--- encodings of one instruction (a REX prefix that says nothing, a SIB byte that is not needed, the other direction of
--- MOV, an 8-bit displacement) only the one that the encoder writes: all else is not decoded, and has no next state.
+-- Written from those rules, without a look at the encoder. Of several encodings of an instruction (an idle REX or SIB byte,
+-- the other direction of MOV, an 8-bit displacement) it takes the encoder's; all else is not decoded: no next state.
 use mathlib.Core.Bool.{Bool, true, false, not, _&&_}
 use mathlib.Core.List.{List, [], _∷_}
 use mathlib.Core.Option.{Option, none, some}
@@ -55,24 +54,16 @@ widthOf w = elim (eqb w 1) [ true ↦ r64 | false ↦ r32 ]
 
 unfoldable pub aluOf : ℕ → (Alu → Answer) → Answer
 aluOf n k =
-    pick (eqb n 0) (k add) (
-    pick (eqb n 1) (k or) (
-    pick (eqb n 4) (k and) (
-    pick (eqb n 5) (k sub) (
-    pick (eqb n 6) (k xor) (
-    only (eqb n 7) (k cmp))))))
+    pick (eqb n 0) (k add) (pick (eqb n 1) (k or) (pick (eqb n 4) (k and) (
+    pick (eqb n 5) (k sub) (pick (eqb n 6) (k xor) (only (eqb n 7) (k cmp))))))
 
 unfoldable pub shiftOf : ℕ → (Shift → Answer) → Answer
 shiftOf n k = pick (eqb n 4) (k shl) (pick (eqb n 5) (k shr) (only (eqb n 7) (k sar)))
 
 unfoldable pub ccOf : ℕ → (Cc → Answer) → Answer
 ccOf n k =
-    pick (eqb n 0x2) (k B) (
-    pick (eqb n 0x3) (k AE) (
-    pick (eqb n 0x4) (k E) (
-    pick (eqb n 0x5) (k NE) (
-    pick (eqb n 0xC) (k L) (
-    only (eqb n 0xD) (k GE))))))
+    pick (eqb n 0x2) (k B) (pick (eqb n 0x3) (k AE) (pick (eqb n 0x4) (k E) (
+    pick (eqb n 0x5) (k NE) (pick (eqb n 0xC) (k L) (only (eqb n 0xD) (k GE))))))
 
 -- only a register operand is a form here
 unfoldable pub onReg : Operand → (ℕ → Answer) → Answer

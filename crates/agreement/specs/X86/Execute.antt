@@ -18,53 +18,49 @@ below s = at (s .regs RSP) (2 ^ 64 - 8)
 abbrev pub operand : ℕ → ℕ → State → ℕ
 operand b o s = at (s .regs b) (sext 32 64 o)
 
--- the addresses that an instruction reads
-unfoldable pub reads : Instr → State → List ℕ
-reads (push r) s = []
-reads (pop r) s = span 8 (s .regs RSP)
-reads (mov d r) s = []
-reads (movImm64 d v) s = []
-reads (load d b o) s = span 8 (operand b o s)
-reads (store b o r) s = []
-reads (alu w op d r) s = []
-reads (aluImm32 op d v) s = []
-reads (aluImm8 op d v) s = []
-reads (shiftCl w op d) s = []
-reads (shiftImm8 w op d v) s = []
-reads (imul w d r) s = []
-reads (movsxd d r) s = []
-reads (setccAl c) s = []
-reads (movzx d r) s = []
-reads (cmov c d r) s = []
-reads callRax s = []
-reads ret s = span 8 (s .regs RSP)
+-- the addresses that an instruction reads, and those that it writes
+pub record Accesses : Type 0 where
+  pub read : List ℕ
+  pub written : List ℕ
 
--- the addresses that it writes
-unfoldable pub writes : Instr → State → List ℕ
-writes (push r) s = span 8 (below s)
-writes (pop r) s = []
-writes (mov d r) s = []
-writes (movImm64 d v) s = []
-writes (load d b o) s = []
-writes (store b o r) s = span 8 (operand b o s)
-writes (alu w op d r) s = []
-writes (aluImm32 op d v) s = []
-writes (aluImm8 op d v) s = []
-writes (shiftCl w op d) s = []
-writes (shiftImm8 w op d v) s = []
-writes (imul w d r) s = []
-writes (movsxd d r) s = []
-writes (setccAl c) s = []
-writes (movzx d r) s = []
-writes (cmov c d r) s = []
-writes callRax s = span 8 (below s)
-writes ret s = []
+abbrev pub noAccess : Accesses
+noAccess = record { read = []; written = [] }
+
+unfoldable pub accesses : Instr → State → Accesses
+accesses (push r) s = record { read = []; written = span 8 (below s) }
+accesses (pop r) s = record { read = span 8 (s .regs RSP); written = [] }
+accesses (mov d r) s = noAccess
+accesses (movImm64 d v) s = noAccess
+accesses (load d b o) s = record { read = span 8 (operand b o s); written = [] }
+accesses (store b o r) s = record { read = []; written = span 8 (operand b o s) }
+accesses (alu w op d r) s = noAccess
+accesses (aluImm32 op d v) s = noAccess
+accesses (aluImm8 op d v) s = noAccess
+accesses (shiftCl w op d) s = noAccess
+accesses (shiftImm8 w op d v) s = noAccess
+accesses (imul w d r) s = noAccess
+accesses (movsxd d r) s = noAccess
+accesses (setccAl c) s = noAccess
+accesses (movzx d r) s = noAccess
+accesses (cmov c d r) s = noAccess
+accesses callRax s = record { read = []; written = span 8 (below s) }
+accesses ret s = record { read = span 8 (s .regs RSP); written = [] }
 
 abbrev pub withRegs : (ℕ → ℕ) → State → State
 withRegs f s = record { regs = f; flags = s .flags; rip = s .rip; mem = s .mem }
 
 abbrev pub withReg : ℕ → ℕ → State → State
 withReg d v s = withRegs (set (s .regs) d v) s
+
+-- registers and flags after an arithmetic instruction; eight bytes stored; a jump to the address a
+abbrev pub withBoth : (ℕ → ℕ) → Flags → State → State
+withBoth f g s = record { regs = f; flags = g; rip = s .rip; mem = s .mem }
+
+abbrev pub storing : ℕ → ℕ → State → State
+storing a v s = record { regs = s .regs; flags = s .flags; rip = s .rip; mem = write 8 (s .mem) a v }
+
+abbrev pub goingTo : ℕ → State → State
+goingTo a s = record { regs = s .regs; flags = s .flags; rip = a; mem = s .mem }
 
 -- where the result of an ALU operation goes; CMP discards it
 abbrev pub result : Alu → (ℕ → ℕ) → ℕ → ℕ → ℕ → ℕ
@@ -81,52 +77,29 @@ module _ (undefined : State → Flags) where
   -- b: the second operand. A result of 32 bits is below 2^32: the upper half of the register is cleared.
   abbrev pub aluTo : ℕ → Alu → ℕ → ℕ → State → State
   aluTo w op d b s =
-      let a : ℕ = s .regs d % 2 ^ w in
-      record {
-        regs = result op (s .regs) d (aluValue w op a b);
-        flags = aluFlags w op a b (undefined s);
-        rip = s .rip;
-        mem = s .mem;
-      }
+      let a : ℕ = s .regs d % 2 ^ w in withBoth (result op (s .regs) d (aluValue w op a b)) (aluFlags w op a b (undefined s)) s
 
   -- c: the count, already masked
   abbrev pub shiftTo : ℕ → Shift → ℕ → ℕ → State → State
   shiftTo w op d c s =
       let a : ℕ = s .regs d % 2 ^ w in
-      record {
-        regs = set (s .regs) d (shifted w op a c);
-        flags = shiftFlags w op a c (s .flags) (undefined s);
-        rip = s .rip;
-        mem = s .mem;
-      }
+      withBoth (set (s .regs) d (shifted w op a c)) (shiftFlags w op a c (s .flags) (undefined s)) s
 
   abbrev pub imulTo : ℕ → ℕ → ℕ → State → State
-  imulTo w d r s = record {
-    regs = set (s .regs) d (s .regs d * s .regs r % 2 ^ w);
-    flags = imulFlags w (s .regs d % 2 ^ w) (s .regs r % 2 ^ w) (undefined s);
-    rip = s .rip;
-    mem = s .mem;
-  }
+  imulTo w d r s =
+      let a : ℕ = s .regs d % 2 ^ w in
+      let b : ℕ = s .regs r % 2 ^ w in
+      withBoth (set (s .regs) d (s .regs d * s .regs r % 2 ^ w)) (imulFlags w a b (undefined s)) s
 
   -- "IF OperandSize is 64: countMASK := 3FH, ELSE 1FH": a count is taken modulo the operand size.
   -- SETcc writes AL, the low byte of RAX, alone. CMOVcc with a false condition leaves a 64-bit destination as it is.
   unfoldable pub exec : Instr → State → State
-  exec (push r) s = record {
-    regs = set (s .regs) RSP (below s);
-    flags = s .flags;
-    rip = s .rip;
-    mem = write 8 (s .mem) (below s) (s .regs r);
-  }
+  exec (push r) s = withReg RSP (below s) (storing (below s) (s .regs r) s)
   exec (pop r) s = withRegs (set (set (s .regs) RSP (at (s .regs RSP) 8)) r (read 8 (s .mem) (s .regs RSP))) s
   exec (mov d r) s = withReg d (s .regs r) s
   exec (movImm64 d v) s = withReg d v s
   exec (load d b o) s = withReg d (read 8 (s .mem) (operand b o s)) s
-  exec (store b o r) s = record {
-    regs = s .regs;
-    flags = s .flags;
-    rip = s .rip;
-    mem = write 8 (s .mem) (operand b o s) (s .regs r);
-  }
+  exec (store b o r) s = storing (operand b o s) (s .regs r) s
   exec (alu w op d r) s = aluTo (widthBits w) op d (s .regs r % 2 ^ widthBits w) s
   exec (aluImm32 op d v) s = aluTo 64 op d (sext 32 64 v) s
   exec (aluImm8 op d v) s = aluTo 64 op d (sext 8 64 v) s
@@ -137,15 +110,5 @@ module _ (undefined : State → Flags) where
   exec (setccAl c) s = withReg RAX (s .regs RAX / 256 * 256 + bitOf (holds c (s .flags))) s
   exec (movzx d r) s = withReg d (s .regs r % 256) s
   exec (cmov c d r) s = withReg d (cond (holds c (s .flags)) (s .regs r) (s .regs d)) s
-  exec callRax s = record {
-    regs = set (s .regs) RSP (below s);
-    flags = s .flags;
-    rip = s .regs RAX;
-    mem = write 8 (s .mem) (below s) (s .rip);
-  }
-  exec ret s = record {
-    regs = set (s .regs) RSP (at (s .regs RSP) 8);
-    flags = s .flags;
-    rip = read 8 (s .mem) (s .regs RSP);
-    mem = s .mem;
-  }
+  exec callRax s = goingTo (s .regs RAX) (withReg RSP (below s) (storing (below s) (s .rip) s))
+  exec ret s = goingTo (read 8 (s .mem) (s .regs RSP)) (withReg RSP (at (s .regs RSP) 8) s)

@@ -1,6 +1,5 @@
--- Results and flags of the arithmetic instructions, over the operand size w in bits.
--- Intel SDM volume 1, "Status Flags"; volume 2, "Flags Affected" of each page. What a page leaves undefined is taken
--- from u, of which nothing is assumed.
+-- Results and flags of the arithmetic instructions, over the operand size w in bits. Intel SDM volume 1, "Status Flags";
+-- volume 2, "Flags Affected" of each page. What a page leaves undefined is taken from u, of which nothing is assumed.
 use mathlib.Core.Bool.{Bool, true, false, not, cond, _&&_}
 use Prim.Native.Nat.{ℕ, zero, suc, _+_, _-_, _*_, _/_, _%_, _^_}
 use lib.Bits.{bitAnd, bitOr, bitXor}
@@ -8,12 +7,9 @@ use lib.Dec.{leb, ltb, eqb}
 use Rattle.agreement.specs.X86.Form.{Alu, Alu.add, Alu.or, Alu.and, Alu.sub, Alu.xor, Alu.cmp, Shift, Shift.shl, Shift.shr, Shift.sar, Cc, Cc.B, Cc.AE, Cc.E, Cc.NE, Cc.L, Cc.GE}
 use Rattle.agreement.specs.X86.State.{Flags}
 
-abbrev pub half : ℕ → ℕ
-half w = 2 ^ w / 2
-
 -- is the top bit of a number of w bits set
 abbrev pub negative : ℕ → ℕ → Bool
-negative w a = leb (half w) a
+negative w a = leb (2 ^ w / 2) a
 
 -- sign extension from k bits to w, "SignExtend"
 unfoldable pub sext : ℕ → ℕ → ℕ → ℕ
@@ -43,38 +39,23 @@ aluValue w sub a b = minus w a b
 aluValue w xor a b = bitXor a b
 aluValue w cmp a b = minus w a b
 
+-- flags of a result v of w bits: PF, ZF and SF go by the result, CF, AF and OF are given
+abbrev pub flagsOf : ℕ → ℕ → Bool → Bool → Bool → Flags
+flagsOf w v c a o = record { cf = c; pf = evenOnes v; af = a; zf = eqb v 0; sf = negative w v; of = o }
+
 -- AND, OR, XOR: "the OF and CF flags are cleared; the SF, ZF, and PF flags are set according to the result"; AF undefined
 unfoldable pub logicFlags : ℕ → ℕ → Flags → Flags
-logicFlags w v u = record {
-  cf = false;
-  pf = evenOnes v;
-  af = u .af;
-  zf = eqb v 0;
-  sf = negative w v;
-  of = false;
-}
+logicFlags w v u = flagsOf w v false (u .af) false
 
 -- CF: carry out of the top bit; AF: carry out of bit 3; OF: the operands have one sign and the result the other
 unfoldable pub addFlags : ℕ → ℕ → ℕ → Flags
-addFlags w a b = record {
-  cf = leb (2 ^ w) (a + b);
-  pf = evenOnes ((a + b) % 2 ^ w);
-  af = leb 16 (a % 16 + b % 16);
-  zf = eqb ((a + b) % 2 ^ w) 0;
-  sf = negative w ((a + b) % 2 ^ w);
-  of = not (unlike (negative w a) (negative w b)) && unlike (negative w ((a + b) % 2 ^ w)) (negative w a);
-}
+addFlags w a b = flagsOf w ((a + b) % 2 ^ w) (leb (2 ^ w) (a + b)) (leb 16 (a % 16 + b % 16))
+    (not (unlike (negative w a) (negative w b)) && unlike (negative w ((a + b) % 2 ^ w)) (negative w a))
 
 -- CF and AF: borrows; OF: the operands' signs differ and the result's sign is not the first one's
 unfoldable pub subFlags : ℕ → ℕ → ℕ → Flags
-subFlags w a b = record {
-  cf = ltb a b;
-  pf = evenOnes (minus w a b);
-  af = ltb (a % 16) (b % 16);
-  zf = eqb (minus w a b) 0;
-  sf = negative w (minus w a b);
-  of = unlike (negative w a) (negative w b) && unlike (negative w (minus w a b)) (negative w a);
-}
+subFlags w a b = flagsOf w (minus w a b) (ltb a b) (ltb (a % 16) (b % 16))
+    (unlike (negative w a) (negative w b) && unlike (negative w (minus w a b)) (negative w a))
 
 unfoldable pub aluFlags : ℕ → Alu → ℕ → ℕ → Flags → Flags
 aluFlags w add a b u = addFlags w a b
@@ -111,19 +92,12 @@ shiftOverflow w shl a = unlike (negative w (a * 2 % 2 ^ w)) (negative w a)
 shiftOverflow w shr a = negative w a
 shiftOverflow w sar a = false
 
--- "If the count is 0, the flags are not affected"; OF is defined for count 1 only; AF is undefined. CF of SHL and SHR
--- is undefined for a count not below the operand size, which the masked count never reaches at 32 and 64 bits.
+-- "If the count is 0, the flags are not affected"; OF is defined for count 1 only; AF is undefined. (A masked count is
+-- below the operand size of 32 or 64 bits, so that CF is defined.)
 unfoldable pub shiftFlags : ℕ → Shift → ℕ → ℕ → Flags → Flags → Flags
 shiftFlags w op a c old u = elim (eqb c 0) [
   | true ↦ old
-  | false ↦ record {
-    cf = shiftedOut w op a c;
-    pf = evenOnes (shifted w op a c);
-    af = u .af;
-    zf = eqb (shifted w op a c) 0;
-    sf = negative w (shifted w op a c);
-    of = elim (eqb c 1) [ true ↦ shiftOverflow w op a | false ↦ u .of ];
-  }
+  | false ↦ flagsOf w (shifted w op a c) (shiftedOut w op a c) (u .af) (cond (eqb c 1) (shiftOverflow w op a) (u .of))
 ]
 
 -- IMUL: CF and OF say that the signed product does not fit w bits; SF, ZF, AF and PF are undefined. (Newer editions of

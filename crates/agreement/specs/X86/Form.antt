@@ -1,5 +1,4 @@
--- The host's instruction forms, as data in families that contain what the 42 encoders of the Rust's X64Emitter write.
--- Intel SDM volume 2, a page for each mnemonic.
+-- The host's instruction forms (Intel SDM volume 2), in families that contain what the Rust's 42 encoders write.
 use Prim.Native.Nat.{ℕ, _^_, _<_}
 
 -- registers by number ("Registers", REX extends to 8 to 15)

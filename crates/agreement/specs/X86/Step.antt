@@ -1,17 +1,18 @@
--- One step: fetch at RIP, decode, execute. Bytes that do not decode, and an access that is not permitted, have no next
--- state. The bytes behind an instruction need not be fetchable and do not matter. A store is seen by the next fetch at once, where the
--- SDM asks for a jump first; the blocks never write themselves. CALL and RET do not test that the target is canonical.
+-- One step: fetch at RIP, decode, execute. Bytes that do not decode and accesses that are not permitted have no next state;
+-- the bytes behind an instruction need not be fetchable. A store is seen by the next fetch at once, where the SDM asks for
+-- a jump first: the blocks never write themselves. CALL and RET do not test that the target is canonical.
 use mathlib.Core.Path.{_≡_}
 use mathlib.Core.Bool.{Bool, true, false}
 use mathlib.Core.List.{List, [], _∷_, _++_}
 use mathlib.Core.Option.{Option, none, some}
+use mathlib.Core.Logic.{_≢_}
 use Prim.Native.Nat.{ℕ, zero, suc, _-_, _%_}
 use lib.ListN.{length}
 use Rattle.agreement.specs.X86.Memory.{Memory, at, up}
-use Rattle.agreement.specs.X86.Form.{Instr, Instr.push, Instr.pop, Instr.mov, Instr.movImm64, Instr.load, Instr.store, Instr.alu, Instr.aluImm32, Instr.aluImm8, Instr.shiftCl, Instr.shiftImm8, Instr.imul, Instr.movsxd, Instr.setccAl, Instr.movzx, Instr.cmov, Instr.callRax, Instr.ret}
+use Rattle.agreement.specs.X86.Form.{Instr, Instr.callRax, Instr.ret}
 use Rattle.agreement.specs.X86.Decode.{Answer, decode}
 use Rattle.agreement.specs.X86.State.{Flags, State, Permissions}
-use Rattle.agreement.specs.X86.Execute.{reads, writes, exec}
+use Rattle.agreement.specs.X86.Execute.{accesses, exec}
 
 -- the bytes from a on that may be fetched, n at the most
 unfoldable pub fetched : (ℕ → Bool) → ℕ → Memory → ℕ → List ℕ
@@ -41,9 +42,9 @@ next ok s = let bs : List ℕ = fetched (ok .fetch) 15 (s .mem) (s .rip) in cut 
 -- the state after an instruction, with the addresses that it wrote
 unfoldable pub did : (State → Flags) → Permissions → State → Option Fetch → Option (State × List ℕ)
 did undefined ok s none = none
-did undefined ok s (some f) = elim (all (ok .read) (reads (f .instr) s)) [
-  | true ↦ elim (all (ok .write) (writes (f .instr) s)) [
-    | true ↦ some (exec undefined (f .instr) (past (f .size) s), writes (f .instr) s)
+did undefined ok s (some f) = elim (all (ok .read) (accesses (f .instr) s .read)) [
+  | true ↦ elim (all (ok .write) (accesses (f .instr) s .written)) [
+    | true ↦ some (exec undefined (f .instr) (past (f .size) s), accesses (f .instr) s .written)
     | false ↦ none
   ]
   | false ↦ none
@@ -62,30 +63,9 @@ steps undefined ok zero s = some (s, [])
 steps undefined ok (suc n) s =
     bind (step undefined ok s) (λ t ws. bind (steps undefined ok n t) (λ u vs. some (u, ws ++ vs)))
 
--- does the instruction go on to the one behind it: all but CALL and RET
-abbrev pub straight : Instr → Bool
-straight (push r) = true
-straight (pop r) = true
-straight (mov d s) = true
-straight (movImm64 d v) = true
-straight (load d b o) = true
-straight (store b o s) = true
-straight (alu w op d s) = true
-straight (aluImm32 op d v) = true
-straight (aluImm8 op d v) = true
-straight (shiftCl w op d) = true
-straight (shiftImm8 w op d v) = true
-straight (imul w d s) = true
-straight (movsxd d s) = true
-straight (setccAl c) = true
-straight (movzx d s) = true
-straight (cmov c d s) = true
-straight callRax = false
-straight ret = false
-
 -- n steps lead from s to t, none of them a CALL or a RET, and write at the addresses ws
 pub data Goes (undefined : State → Flags) (ok : Permissions) : State → ℕ → List ℕ → State → Type 0 where
   done : {s : State} → Goes undefined ok s 0 [] s
   more : {s t u : State} {n : ℕ} {ws vs : List ℕ} {f : Fetch}
-      → next ok s ≡ some f → straight (f .instr) ≡ true → step undefined ok s ≡ some (t, ws)
+      → next ok s ≡ some f → f .instr ≢ callRax → f .instr ≢ ret → step undefined ok s ≡ some (t, ws)
       → Goes undefined ok t n vs u → Goes undefined ok s (suc n) (ws ++ vs) u
