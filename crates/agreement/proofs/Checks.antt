@@ -2,7 +2,10 @@ pub mod Cases
 pub mod CasesHold
 pub mod Vectors
 pub mod Reached
+pub mod Placing
 pub mod Flags
+pub mod Execute
+pub mod Faults
 pub mod Example
 pub mod Executed
 pub mod Witness

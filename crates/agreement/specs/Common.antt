@@ -1,7 +1,7 @@
 -- What the translator and the manual's run share: two numbers of document 01, and a name for each of the two helpers.
 use Prim.Native.Nat.{ℕ}
 
--- document 01, "Block bytes" and number 5: the greatest length of a block, and so the least output that is accepted
+-- document 01, "src/hart/jit_amd64.rs" and number 5: the greatest length of a block, the least output that is accepted
 abbrev pub greatest : ℕ
 greatest = 2243
 

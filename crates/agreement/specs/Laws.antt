@@ -32,7 +32,7 @@ unfoldable pub Encodes : Type 0
 Encodes = (bs : List ℕ) (i : Instr) (rest : List ℕ)
     → Bytes bs → decode bs ≡ some (i, rest) → (bs ≡ encode i ++ rest) × Ok i
 
--- Which instruction a word is: the Rust's tests and the manual's listing name the same, JALR with funct3 1 to 7 apart.
+-- Which instruction a word is: tests and listing name the same where document 01 chooses it, JALR's funct3 apart.
 
 unfoldable pub TakenAlike : Type 0
 TakenAlike = (w : ℕ) → kind w ≡ taken w
@@ -55,7 +55,7 @@ pub record ImmediatesAlike : Type 0 where
   pub u-alike : (w : ℕ) → Decode32.immU w ≡ Manual.immU w
   pub j-alike : (w : ℕ) → Decode32.immJ w ≡ Manual.immJ w
 
--- -4096 to 4094 and -1048576 to 1048574, both even: with the least added, modulo 2^64, the number is at most the span
+-- -4096 to 4094 and -1048576 to 1048574, both even: with the least subtracted, modulo 2^64, at most the span
 pub record Ranges : Type 0 where
   pub b-range : (w : ℕ) → (Manual.immB w + 4096) % 2 ^ 64 ≤ 4096 + 4094
   pub b-even : (w : ℕ) → Manual.immB w % 2 ≡ 0
@@ -80,7 +80,7 @@ ComparesByFlags = (k a b : ℕ) → a < 2 ^ suc k → b < 2 ^ suc k
     × (holds B (subFlags (suc k) a b) ≡ ltb a b)
     × (holds E (subFlags (suc k) a b) ≡ eqb a b)
 
--- The steps of an entry, a relation in the statement, are those of the function that runs the model.
+-- Stretches without CALL and RET, a relation in the statement, are runs of the function `steps`.
 
 unfoldable pub StepsAlike : Type 0
 StepsAlike = (undefined : State → Flags) (ok : Permissions) (s t : State) (n : ℕ) (ws : List ℕ)

@@ -38,7 +38,7 @@ abbrev pass : List Vector → Bool
 pass [] = true
 pass (v ∷ vs) = passes v && pass vs
 
--- seen on an x86-64 processor; where a flag is undefined, what u has
+-- by the rules of the SDM; where a flag is undefined, what u has
 vectors : List Vector
 vectors =
     byAlu add (2 ^ 64 - 1) 1 off 0b111100
@@ -50,6 +50,7 @@ vectors =
     ∷ byAlu xor (2 ^ 63) 1 off 0b000010
     ∷ byShift shl (2 ^ 63) 1 off 0b110101
     ∷ byShift shr 3 1 off 0b100000
+    ∷ byShift shr (2 ^ 63) 1 off 0b010001
     ∷ byShift sar (2 ^ 64 - 1) 63 off 0b110010
     ∷ byShift shl 1 2 on 0b001001
     ∷ byImul (2 ^ 32) (2 ^ 32) off 0b100001

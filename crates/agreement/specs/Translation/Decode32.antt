@@ -1,4 +1,4 @@
--- The fields and immediates as the translator takes them: the Rust's src/hart/decode.rs, by shift, mask and or.
+-- The word, its fields and immediates as the translator takes them: src/hart/decode.rs and jit_amd64.rs of the Rust.
 -- `x >> n` is x / 2^n, `x << n` is x * 2^n, `&` is bitAnd and `|` is bitOr.
 use mathlib.Core.Bool.{cond}
 use Prim.Native.Nat.{ℕ, _+_, _-_, _*_, _/_, _%_, _^_}

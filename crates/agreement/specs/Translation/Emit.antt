@@ -1,5 +1,5 @@
 -- The host instructions for a word: the Rust's `emit_native_instr_x64`, its prologue, epilogue and helper ends.
--- Document 01, "Block bytes". RBX holds the registers' address, guest register r is at RBX + 8r; R10, R11, RCX and AL work.
+-- Document 01, "Block bytes". RBX holds the registers' address, guest register r is at RBX + 8r; R10, R11, RCX and RAX work.
 use mathlib.Core.Bool.{cond}
 use mathlib.Core.List.{List, [], _∷_, _++_}
 use Prim.Native.Nat.{ℕ, _-_, _*_, _^_}

@@ -1,7 +1,7 @@
 -- What a reader of the SDM makes of bytes: an optional REX prefix, the opcode, ModRM, SIB, displacement, immediate.
 -- Intel SDM volume 2, "Instruction Format", "REX Prefixes", "ModR/M and SIB Bytes" and the page of each mnemonic.
--- Written from those rules, without a look at the encoder. Of several encodings of an instruction (an idle REX or SIB byte,
--- the other direction of MOV, an 8-bit displacement) it takes the encoder's; all else is not decoded: no next state.
+-- It uses no definition of Encode. Of several encodings of an instruction (an idle REX or SIB byte, the other direction of
+-- MOV, an 8-bit displacement) it takes the one that the Rust writes; all else is not decoded: no next state.
 use mathlib.Core.Bool.{Bool, true, false, not, _&&_}
 use mathlib.Core.List.{List, [], _∷_}
 use mathlib.Core.Option.{Option, none, some}

@@ -1,5 +1,5 @@
 -- The bytes of an instruction. Intel SDM volume 2, "Instruction Format"; opcode and /digit from the page of each mnemonic.
-use mathlib.Core.Bool.{Bool, true, false, cond}
+use mathlib.Core.Bool.{cond}
 use mathlib.Core.List.{List, [], _∷_, _++_}
 use Prim.Native.Nat.{ℕ, _+_, _*_, _/_, _%_}
 use lib.Dec.{eqb}

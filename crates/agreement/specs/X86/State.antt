@@ -14,7 +14,7 @@ pub record Flags : Type 0 where
   pub of : Bool
 
 -- registers by number, as Form names them. They are numbers without a bound here: that they are below 2^64 is asked of
--- the sixteen at entry, and of RAX and RDX when a helper returns (what else it leaves there is not looked at).
+-- the sixteen at entry, and of RAX and RDX when a helper returns (RSP is given by `Keeps`; the rest is not looked at).
 pub record State : Type 0 where
   pub regs : ℕ → ℕ
   pub flags : Flags
