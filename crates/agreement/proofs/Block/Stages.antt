@@ -273,7 +273,7 @@ module _ (undefined : State → Flags) (ok : Permissions) (P : ℕ → Bool) (b 
 
   pub called-at : (x : Registers) (k : ℕ) (e u : State) → Mid ok b c p code e x k u
       → Inside e x (k + 2) (u .regs RAX) (one undefined callRax u)
-  unfolding one past exec encode
+  unfolding one past exec
   called-at x k e u h =
       let f : p + 72 ≤ 2 ^ 64 = pl .p-fits in
       let lo : c < 2 ^ 64 = pl .c-low in

@@ -326,7 +326,7 @@ module _ (undefined : State → Flags) (ok : Permissions) (P : ℕ → Bool) (b 
       }
     where
       two : length pre2 + length (encode callRax) ≡ length pre2 + 2
-      two = unfold encode in refl
+      two = refl
 
   pub calls-leaves : (k : Helper) (i pc : ℕ) (x : Registers) (q : Read) (s : State) → part .end ≡ calls k i pc
       → i < 2 ^ 64 → pc < 2 ^ 64 → h1 < 2 ^ 64 → h2 < 2 ^ 64 → part .added < 2 ^ 31 → Entry ok b c p x code s

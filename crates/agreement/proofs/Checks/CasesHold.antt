@@ -15,7 +15,7 @@ use Rattle.agreement.proofs.Checks.Cases.{byManual, byRust, equal, code
 -- whoever unfolds these unfolds what they name: the immediates of both sides; a translation; how a case is written and tested
 unfoldable pub immediates : Unit {0}
 unfolding
-    Manual.signExtend Manual.immI Manual.immS Manual.immB Manual.immU Manual.immJ
+    Manual.signExtend
     Decode32.signExtend Decode32.immI Decode32.immS Decode32.immB Decode32.immU Decode32.immJ
 immediates = tt
 
@@ -25,7 +25,6 @@ unfolding
     Decode32.imm12 Decode32.immHi Decode32.shamt Decode32.shamtW Decode32.imm32
     match kindOp kindOp32 kindOpImm kindOpImm32 kindBranch kindLoad kindStore kindFence kindOf kind
     leftover emit walk ending instrs counted numbered firstWord first byFirst translate
-    bytesOf rex modReg modMem encode
 translations = tt
 
 unfoldable pub tests : Unit {0}

@@ -75,5 +75,5 @@ vectors-pass = refl
 -- a base whose low bits are 4 has a SIB byte, which no block's code has
 sib-bytes : equal (encode (load R10 R12 0x10)) (0x4D ∷ 0x8B ∷ 0x94 ∷ 0x24 ∷ 0x10 ∷ 0 ∷ 0 ∷ 0 ∷ [])
     && equal (encode (store RSP 0 RAX)) (0x48 ∷ 0x89 ∷ 0x84 ∷ 0x24 ∷ 0 ∷ 0 ∷ 0 ∷ 0 ∷ []) ≡ true
-unfolding equal encode rex modMem bytesOf
+unfolding equal
 sib-bytes = refl

@@ -216,11 +216,11 @@ x1-is a =
 
 -- ADDI x2, x1, 1 and BNE x1, x2, 16 from registers x
 third-registers : (a : State) → m3 a .registers ≡ writeX (m2 a .registers) 2 ((m2 a .registers 1 + 1) % 2 ^ 64)
-unfolding reads-a-turn valueOpImm Manual.immI Manual.signExtend
+unfolding reads-a-turn valueOpImm Manual.signExtend
 third-registers a = refl
 
 third-pc : (a : State) → m3 a .pc ≡ cond (not (eqb (m2 a .registers 1) ((m2 a .registers 1 + 1) % 2 ^ 64))) 0x80000024 0x80000018
-unfolding reads-a-turn valueOpImm Manual.immI Manual.immB Manual.signExtend branches writeX
+unfolding reads-a-turn valueOpImm Manual.signExtend branches writeX
 third-pc a = refl
 
 pub record AfterThree (m : GuestState) : Type 0 where

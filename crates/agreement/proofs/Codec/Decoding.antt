@@ -22,7 +22,7 @@ wide r32 = 0
 
 -- the immediate
 imm-le : (n v : ℕ) (rest : List ℕ) (k : ℕ → List ℕ → Answer) → v < 256 ^ n → imm n (bytesOf n v ++ rest) k ≡ k v rest
-unfolding imm bytesOf
+unfolding imm
 imm-le zero v rest k h = let e : v ≡ 0 = omega (arith, rw pow-zero at h) in rw e
 imm-le (suc n) v rest k h =
     let f : v / 256 < 256 ^ n = omega (arith, rw pow-suc at h) in
@@ -31,7 +31,7 @@ imm-le (suc n) v rest k h =
 
 modrm-reg : (r b : ℕ) (rest : List ℕ) (k : Operand → ℕ → List ℕ → Answer)
     → r < 16 → b < 16 → modrm (r / 8) (b / 8) (modReg r b ∷ rest) k ≡ k (reg b) r rest
-unfolding modrm modReg pick
+unfolding modrm pick
 modrm-reg r b rest k h l =
     let m : ℕ = 192 + 8 * (r % 8) + b % 8 in
     let e : eqb (m / 64) 3 ≡ true = eqb-yes (m / 64) 3 (omega arith) in
@@ -46,7 +46,7 @@ modrm-digit r b rest k h l = let e : r / 8 ≡ 0 = omega arith in rw e at (modrm
 
 modrm-mem : (r b d : ℕ) (rest : List ℕ) (k : Operand → ℕ → List ℕ → Answer)
     → r < 16 → b < 16 → d < 2 ^ 32 → modrm (r / 8) (b / 8) (modMem r b d ++ rest) k ≡ k (mem b d) r rest
-unfolding modrm modMem memory sib pick only
+unfolding modrm memory sib pick only
 modrm-mem r b d rest k h l n = go (ℕ-discrete (b % 8) 4)
   where
     go : Dec (b % 8 ≡ 4) → modrm (r / 8) (b / 8) (modMem r b d ++ rest) k ≡ k (mem b d) r rest
@@ -87,7 +87,6 @@ rex-on w r b bs h k l n =
 
 rex-any : (w : Width) (r b o : ℕ) (bs : List ℕ) → r < 16 → b < 16 → eqb (o / 16) 4 ≡ false
     → decode (rex w r b ++ o ∷ bs) ≡ opcode1 (wide w) (r / 8) (b / 8) (o ∷ bs)
-unfolding rex
 rex-any r64 r b o bs h k n = rex-on 1 r b (o ∷ bs) (omega arith) h k (omega arith)
 rex-any r32 r b o bs h k n = go (decLe 1 (4 * (r / 8) + b / 8))
   where
@@ -213,7 +212,7 @@ unfolding decode opcode1 pick only
 at-ret rest = refl
 
 pub round : (i : Instr) (rest : List ℕ) → Ok i → decode (encode i ++ rest) ≡ some (i, rest)
-unfolding encode Ok opcode1 onReg moved loaded opcode0F pick only
+unfolding Ok opcode1 onReg moved loaded opcode0F pick only
 round (push r) rest h =
     let e : eqb ((80 + r % 8) / 16) 4 ≡ false = eqb-no ((80 + r % 8) / 16) 4 (omega arith) in
     rw append-assoc (rex-any r32 0 r (80 + r % 8) rest (omega arith) h e ∙ at-push r rest h)

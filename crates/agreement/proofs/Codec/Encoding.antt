@@ -63,7 +63,7 @@ abbrev ForImm : List ℕ → ℕ → List ℕ → (ℕ → List ℕ → Answer) 
 ForImm W n bs k = (v : ℕ) (rest : List ℕ) → v < 256 ^ n → Bytes rest → bs ≡ bytesOf n v ++ rest → Right W (k v rest)
 
 imm-right : {W : List ℕ} (n : ℕ) (bs : List ℕ) (k : ℕ → List ℕ → Answer) → Bytes bs → ForImm W n bs k → Right W (imm n bs k)
-unfolding imm bytesOf Bytes
+unfolding imm Bytes
 imm-right zero bs k h f = f 0 bs (rw pow-zero (omega arith)) h refl
 imm-right (suc n) [] k h f = none-right
 imm-right (suc n) (b ∷ bs) k h f =
@@ -133,18 +133,15 @@ module _ (r b m : ℕ) (lr : r < 2) (lb : b < 2) where
       }
 
   reg-byte : m / 64 ≡ 3 → m ≡ modReg (regOf r m) (rmOf b m)
-  unfolding modReg
   reg-byte e = rw (reg-low, rm-low) (omega (arith, apart m))
 
   -- where rm is 4 a SIB byte follows
   with-sib : (o : ℕ) → m / 64 ≡ 2 → m % 8 ≡ 4 → m ∷ 0x24 ∷ bytesOf 4 o ≡ modMem (regOf r m) (rmOf b m) o
-  unfolding modMem
   with-sib o e f =
       let z : 128 + 8 * (m / 8 % 8) + 4 ≡ m = omega (arith, apart m) in
       rw (reg-low, rm-low) (rw f (rw z))
 
   without-sib : (o : ℕ) → m / 64 ≡ 2 → eqb (m % 8) 4 ≡ false → m ∷ bytesOf 4 o ≡ modMem (regOf r m) (rmOf b m) o
-  unfolding modMem
   without-sib o e f =
       let z : 128 + 8 * (m / 8 % 8) + m % 8 ≡ m = omega (arith, apart m) in
       rw (reg-low, rm-low) (rw f (rw z))
@@ -244,7 +241,7 @@ narrow-is w l e = go (ℕ-discrete w 1)
     go (no n) = omega arith
 
 rex-is : (x : Width) (w r b g d : ℕ) → w < 2 → widthOf w ≡ x → g / 8 ≡ r → d / 8 ≡ b → prefix w r b ≡ rex x g d
-unfolding prefix rex
+unfolding prefix
 rex-is r64 w r b g d l e p q =
     let z : w ≡ 1 = wide-is w e in
     let n : eqb (8 * w + 4 * r + b) 0 ≡ false = eqb-no (8 * w + 4 * r + b) 0 (omega arith) in
@@ -258,7 +255,6 @@ rex-is r32 w r b g d l e p q =
 
 -- an immediate of one byte is that byte
 byte : (v : ℕ) → v < 256 → bytesOf 1 v ≡ v ∷ []
-unfolding bytesOf
 byte v l = let z : v % 256 ≡ v = omega arith in rw z
 
 second : (x y : Bool) → x && y ≡ true → y ≡ true
@@ -326,7 +322,7 @@ module _ (w r b : ℕ) (lw : w < 2) (lr : r < 2) (lb : b < 2) where
 
   -- the two forms whose operand may be a place in memory
   moved-arm : (bs : List ℕ) → Bytes bs → w ≡ 1 → Arm (0x89 ∷ bs) (modrm r b bs moved)
-  unfolding encode Ok moved
+  unfolding Ok moved
   moved-arm bs h e =
       let x : widthOf w ≡ r64 = w-one e in
       modrm-right r b bs moved lr lb h
@@ -334,7 +330,7 @@ module _ (w r b : ℕ) (lw : w < 2) (lr : r < 2) (lb : b < 2) where
       (λ d o g rest p l s z. named-right (store d o g) r64 (0x89 ∷ []) (modMem g d o) bs rest g d x p z (refl, (p .d-ok, l, p .g-ok)))
 
   loaded-arm : (bs : List ℕ) → Bytes bs → w ≡ 1 → Arm (0x8B ∷ bs) (modrm r b bs loaded)
-  unfolding encode Ok loaded
+  unfolding Ok loaded
   loaded-arm bs h e =
       let x : widthOf w ≡ r64 = w-one e in
       modrm-right r b bs loaded lr lb h (λ d g rest p s z. none-right)
@@ -343,7 +339,7 @@ module _ (w r b : ℕ) (lw : w < 2) (lr : r < 2) (lb : b < 2) where
   -- the two forms that name one register alone, AL and RAX: no prefix, and one ModRM byte that is taken
   setcc-arm : (o : ℕ) (bs : List ℕ) → Bytes bs → 4 * w + 2 * r + b ≡ 0 → o / 16 ≡ 9 → Arm (0x0F ∷ o ∷ bs)
       (ccOf (o % 16) (λ c. modrm 0 0 bs (λ p g rest. onReg p (λ s. only (eqb (g + s) 0) (some (setccAl c, rest))))))
-  unfolding encode Ok modReg
+  unfolding Ok
   setcc-arm o bs h e q = ccs _ (o % 16) _ (λ c f. regs-right 0 0 bs _ (omega arith) (omega arith) h (by c f))
     where
       by : (c : Cc) → o % 16 ≡ ccNumber c
@@ -356,7 +352,7 @@ module _ (w r b : ℕ) (lw : w < 2) (lr : r < 2) (lb : b < 2) where
 
   call-arm : (bs : List ℕ) → Bytes bs → 4 * w + 2 * r + b ≡ 0 → Arm (0xFF ∷ bs)
       (modrm 0 0 bs (λ p g rest. onReg p (λ d. only (eqb (16 * g + d) 32) (some (callRax, rest)))))
-  unfolding encode Ok modReg
+  unfolding Ok
   call-arm bs h e = regs-right 0 0 bs _ (omega arith) (omega arith) h by
     where
       by : ForRegs (prefix w r b ++ 0xFF ∷ bs) 0 0 bs (λ d g rest. only (eqb (16 * g + d) 32) (some (callRax, rest)))
@@ -368,7 +364,7 @@ module _ (w r b : ℕ) (lw : w < 2) (lr : r < 2) (lb : b < 2) where
 
   -- the opcodes of two bytes, and then those of one, in the order of the decoder
   opcode0F-right : (bs : List ℕ) → Bytes bs → Arm (0x0F ∷ bs) (opcode0F w r b bs)
-  unfolding opcode0F Bytes encode Ok
+  unfolding opcode0F Bytes Ok
   opcode0F-right [] h = none-right
   opcode0F-right (o ∷ bs) h =
       let t : Bytes bs = h .1 in
@@ -382,7 +378,7 @@ module _ (w r b : ℕ) (lw : w < 2) (lr : r < 2) (lb : b < 2) where
       only-is (o / 16) 9 (λ e. only-is (4 * w + 2 * r + b) 0 (λ f. setcc-arm o bs t f e)))))
 
   opcode-right : (bs : List ℕ) → Bytes bs → Arm bs (opcode1 w r b bs)
-  unfolding opcode1 Bytes encode Ok imm bytesOf
+  unfolding opcode1 Bytes Ok imm
   opcode-right [] h = none-right
   opcode-right (o ∷ bs) h =
       let t : Bytes bs = h .1 in

@@ -56,7 +56,6 @@ fetch-holds may (suc n) m a (b ∷ bs) h k =
     (r .0, rw (h .0, fetched) (rw (h .1) (ap (λ (t : List ℕ). b ∷ t) (r .1))))
 
 rex-len : (w : Width) (r b : ℕ) → length (rex w r b) ≤ 1
-unfolding rex
 rex-len r64 r b = omega arith
 rex-len r32 r b = go (eqb (_+_ (4 * (r / 8)) (b / 8)) 0)
   where
@@ -65,7 +64,6 @@ rex-len r32 r b = go (eqb (_+_ (4 * (r / 8)) (b / 8)) 0)
     go false = omega arith
 
 mem-len : (r b d : ℕ) → length (modMem r b d) ≤ 6
-unfolding modMem
 mem-len r b d = go (eqb (b % 8) 4)
   where
     go : (t : Bool) → length (cond t ((128 + 8 * (r % 8) + 4) ∷ (32 + b % 8) ∷ bytesOf 4 d) ((128 + 8 * (r % 8) + b % 8) ∷ bytesOf 4 d)) ≤ 6
@@ -73,7 +71,6 @@ mem-len r b d = go (eqb (b % 8) 4)
     go false = omega (arith, len-le 4 d)
 
 pub short : (i : Instr) → length (encode i) ≤ 15
-unfolding encode
 short (push r) = simp length-append (omega (arith, rex-len r32 0 r))
 short (pop r) = simp length-append (omega (arith, rex-len r32 0 r))
 short (mov d s) = simp length-append (omega (arith, rex-len r64 s d))

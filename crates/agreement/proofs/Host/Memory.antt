@@ -75,7 +75,6 @@ pub read-other : (n k : ℕ) (m : Memory) (a v x : ℕ) → a < 2 ^ 64 → x < 2
 read-other n k m a v x b c h = read-ext k (write n m a v) m x c (λ i l. write-out n m a v (at x i) b (λ j l′. h i j l l′))
 
 pub len-le : (n v : ℕ) → length (bytesOf n v) ≡ n
-unfolding bytesOf
 len-le zero v = refl
 len-le (suc n) v = ap suc (len-le n (v / 256))
 

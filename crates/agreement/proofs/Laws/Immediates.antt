@@ -56,28 +56,28 @@ j-scatter w =
     (omega arith) (omega arith) (omega arith) (omega arith) (omega arith) (omega arith))
 
 pub immI-is : (w : ℕ) → w < 2 ^ 32 → Decode32.immI w ≡ Manual.immI w
-unfolding Decode32.immI Manual.immI
+unfolding Decode32.immI
 immI-is w h =
     let e : bits 31 20 w ≡ w / 2 ^ 20 = omega arith in
     rw e (byShifts-is 11 (w / 2 ^ 20) (omega arith) (omega arith))
 
 immS-is : (w : ℕ) → w < 2 ^ 32 → Decode32.immS w ≡ Manual.immS w
-unfolding Decode32.immS Manual.immS
+unfolding Decode32.immS
 immS-is w h =
     let e : bits 31 25 w ≡ w / 2 ^ 25 = omega arith in
     rw (e, mask-is w 7 5, or-shifted (w / 2 ^ 25) 5 (bits 11 7 w) (omega arith))
     (byShifts-is 11 (w / 2 ^ 25 * 2 ^ 5 + bits 11 7 w) (omega arith) (omega arith))
 
 pub immB-is : (w : ℕ) → Decode32.immB w ≡ Manual.immB w
-unfolding Decode32.immB Manual.immB
+unfolding Decode32.immB
 immB-is w = rw (b-scatter w) (byShifts-is 12 (scatterB w) (omega arith) (omega arith))
 
 pub immU-is : (w : ℕ) → Decode32.immU w ≡ Manual.immU w
-unfolding Decode32.immU Manual.immU
+unfolding Decode32.immU
 immU-is w = rw (and-high w 20 12) (byShifts-is 31 (bits 31 12 w * 2 ^ 12) (omega arith) (omega arith))
 
 pub immJ-is : (w : ℕ) → Decode32.immJ w ≡ Manual.immJ w
-unfolding Decode32.immJ Manual.immJ
+unfolding Decode32.immJ
 immJ-is w = rw (j-scatter w) (byShifts-is 20 (scatterJ w) (omega arith) (omega arith))
 
 pub immediates-alike : ImmediatesAlike
@@ -108,12 +108,10 @@ range M H a m h l k e = go (leb H a) refl
         record { within = rw z (omega arith); even = omega arith }
 
 range-B : (w : ℕ) → Range 4096 (Manual.immB w)
-unfolding Manual.immB
 range-B w = rw (signExtend-is 12 (scatterB w) (omega arith))
     (unfold sext in range 8192 4096 (scatterB w) refl refl (omega arith) (omega arith) (omega arith))
 
 range-J : (w : ℕ) → Range 1048576 (Manual.immJ w)
-unfolding Manual.immJ
 range-J w = rw (signExtend-is 20 (scatterJ w) (omega arith))
     (unfold sext in range 2097152 1048576 (scatterJ w) refl refl (omega arith) (omega arith) (omega arith))
 
@@ -148,17 +146,15 @@ unfolding Decode32.imm32
 imm32-is w h = rw (immI-is w h) (by (Manual.immI w) (i-is w))
   where
     i-is : (w : ℕ) → Manual.immI w ≡ sext 12 64 (bits 31 20 w)
-    i-is w = unfold Manual.immI in signExtend-is 11 (bits 31 20 w) (omega arith)
+    i-is w = signExtend-is 11 (bits 31 20 w) (omega arith)
 
     by : (v : ℕ) → v ≡ sext 12 64 (bits 31 20 w) → sext 32 64 (v % 2 ^ 32) ≡ v
     by v e = rw e (low-half (bits 31 20 w) (omega arith))
 
 pub immI-lt : (w : ℕ) → Manual.immI w < 2 ^ 64
-unfolding Manual.immI
 immI-lt w = signExtend-lt 11 (bits 31 20 w) (omega arith) (omega arith)
 
 pub immU-lt : (w : ℕ) → Manual.immU w < 2 ^ 64
-unfolding Manual.immU
 immU-lt w = signExtend-lt 31 (bits 31 12 w * 2 ^ 12) (omega arith) (omega arith)
 
 pub imm32-lt : (w : ℕ) → Decode32.imm32 w < 2 ^ 32

@@ -32,7 +32,6 @@ len-append xs ys = rw (bytes-append xs ys) (length-append (bytes xs) (bytes ys))
 -- 1. Each word's code
 
 len-store : (d : ℕ) → len (storeReg d R10) ≤ 7
-unfolding encode rex modReg modMem bytesOf
 len-store d = go (eqb d 0)
   where
     go : (t : Bool) → len (cond t [] (store RBX (8 * d) R10 ∷ [])) ≤ 7
@@ -40,19 +39,15 @@ len-store d = go (eqb d 0)
     go false = omega arith
 
 len-load : (r : ℕ) → len (loadReg R10 r ∷ []) ≡ 7
-unfolding encode rex modReg modMem bytesOf
 len-load r = refl
 
 len-loads : (r q : ℕ) → len (loadReg R10 r ∷ loadReg R11 q ∷ []) ≡ 14
-unfolding encode rex modReg modMem bytesOf
 len-loads r q = refl
 
 len-compare : (r q : ℕ) → len (compare r q) ≡ 17
-unfolding encode rex modReg modMem bytesOf
 len-compare r q = refl
 
 len-body-op : (o : Op) → len (bodyOp o) ≤ 13
-unfolding encode rex modReg modMem bytesOf
 len-body-op ADD = omega arith
 len-body-op SUB = omega arith
 len-body-op SLL = omega arith
@@ -77,7 +72,6 @@ len-op o d p q =
     (omega (arith, len-loads p q, len-body-op o, len-store d)))
 
 len-body-imm : (o : OpImm) (i c d : ℕ) → len (bodyOpImm o i c d) ≤ 20
-unfolding encode rex modReg modMem bytesOf
 len-body-imm ADDI i c d = omega arith
 len-body-imm SLTI i c d = omega arith
 len-body-imm SLTIU i c d = omega arith
@@ -98,7 +92,6 @@ len-imm o r p i c d =
     (omega (arith, len-load p, len-body-imm o i c d, len-store r)))
 
 len-const : (d v : ℕ) → len (codeConst d v) ≤ 17
-unfolding encode rex modReg modMem bytesOf
 len-const d v = go (eqb d 0)
   where
     go : (t : Bool) → len (cond t [] (movImm64 R10 v ∷ store RBX (8 * d) R10 ∷ [])) ≤ 17
@@ -106,17 +99,15 @@ len-const d v = go (eqb d 0)
     go false = omega arith
 
 len-branch : (c : Branch) (p q n t : ℕ) → len (codeBranch c p q n t) ≡ 44
-unfolding encode rex modReg modMem bytesOf
 len-branch c p q n t = refl
 
 len-jal : (d v t : ℕ) → (10 ≤ len (codeJal d v t)) × (len (codeJal d v t) ≤ 27)
 len-jal d v t = rw (len-append (codeConst d v) (movImm64 RAX t ∷ [])) (omega (arith, len-const d v, ten))
   where
     ten : len (movImm64 RAX t ∷ []) ≡ 10
-    ten = unfold encode rex bytesOf in refl
+    ten = refl
 
 len-jalr : (d p i l : ℕ) → (10 ≤ len (codeJalr d p i l)) × (len (codeJalr d p i l) ≤ 41)
-unfolding encode rex modReg modMem bytesOf
 len-jalr d p i l = go (eqb d 0)
   where
     code : Bool → List Instr
@@ -223,7 +214,7 @@ sized (suc n) pc (x ∷ y ∷ hs) = go (eqb (bitAnd x 0x3) 0x3) (sized n (plus p
 -- 3. The block
 
 len-ending : (h1 h2 : ℕ) (e : End) (n : ℕ) → (least e ≤ len (ending h1 h2 e n)) × (len (ending h1 h2 e n) ≤ most e)
-unfolding ending least most encode rex modReg bytesOf
+unfolding ending least most
 len-ending h1 h2 (goesOn pc) n = omega arith
 len-ending h1 h2 jumped n = omega arith
 len-ending h1 h2 (calls h i pc) n = go (eqb n 0)
@@ -236,7 +227,6 @@ len-ending h1 h2 (calls h i pc) n = go (eqb n 0)
     go false = omega arith
 
 len-opening : len opening ≡ 32
-unfolding encode rex modReg
 len-opening = refl
 
 pub block-length : (h1 h2 n pc : ℕ) (hs : List ℕ)

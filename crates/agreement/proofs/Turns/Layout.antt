@@ -28,12 +28,12 @@ small-append [] ys p q = q
 small-append (x ∷ xs) ys p q = (p .0, small-append xs ys (p .1) q)
 
 small-number : (n v : ℕ) → Bytes (bytesOf n v)
-unfolding Bytes bytesOf
+unfolding Bytes
 small-number zero v = tt
 small-number (suc n) v = (omega arith, small-number n (v / 256))
 
 small-rex : (w : Width) (r b : ℕ) → r < 16 → b < 16 → Bytes (rex w r b)
-unfolding Bytes rex
+unfolding Bytes
 small-rex r64 r b h k = omega arith
 small-rex r32 r b h k = go (eqb (_+_ (4 * (r / 8)) (b / 8)) 0)
   where
@@ -42,11 +42,10 @@ small-rex r32 r b h k = go (eqb (_+_ (4 * (r / 8)) (b / 8)) 0)
     go false = omega arith
 
 small-reg : (r b : ℕ) → modReg r b < 256
-unfolding modReg
 small-reg r b = omega arith
 
 small-mem : (r b d : ℕ) → Bytes (modMem r b d)
-unfolding Bytes modMem
+unfolding Bytes
 small-mem r b d = go (eqb (b % 8) 4)
   where
     go : (t : Bool) → Bytes (cond t ((128 + 8 * (r % 8) + 4) ∷ (32 + b % 8) ∷ bytesOf 4 d) ((128 + 8 * (r % 8) + b % 8) ∷ bytesOf 4 d))
@@ -66,23 +65,23 @@ small-after : (w : Width) (r b : ℕ) (bs : List ℕ) → r < 16 → b < 16 → 
 small-after w r b bs h k s = small-append (rex w r b) bs (small-rex w r b h k) s
 
 small-encode : (i : Instr) → Ok i → Bytes (encode i)
-unfolding encode Ok Bytes
+unfolding Ok Bytes
 small-encode (push r) h = small-after r32 0 r _ (omega arith) h (omega arith)
 small-encode (pop r) h = small-after r32 0 r _ (omega arith) h (omega arith)
-small-encode (mov d s) h = small-after r64 s d _ (h .1) (h .0) (omega arith, (small-reg s d, tt))
-small-encode (movImm64 d v) h = small-after r64 0 d _ (omega arith) (h .0) (omega arith, small-number 8 v)
-small-encode (load d b o) h = small-after r64 d b _ (h .0) (h .1) (omega arith, small-mem d b o)
-small-encode (store b o s) h = small-after r64 s b _ (h .2) (h .0) (omega arith, small-mem s b o)
+small-encode (mov d s) h = omega arith
+small-encode (movImm64 d v) h = (omega arith, (omega arith, small-number 8 v))
+small-encode (load d b o) h = (omega arith, (omega arith, small-mem d b o))
+small-encode (store b o s) h = (omega arith, (omega arith, small-mem s b o))
 small-encode (alu w op d s) h = small-after w s d _ (h .1) (h .0) (omega (arith, digit-lt op), (small-reg s d, tt))
-small-encode (aluImm32 op d v) h = small-after r64 0 d _ (omega arith) (h .0) (omega arith, (small-reg (digit op) d, small-number 4 v))
-small-encode (aluImm8 op d v) h = small-after r64 0 d _ (omega arith) (h .0) (omega arith, (small-reg (digit op) d, (h .1, tt)))
+small-encode (aluImm32 op d v) h = (omega arith, (omega arith, (omega arith, small-number 4 v)))
+small-encode (aluImm8 op d v) h = omega arith
 small-encode (shiftCl w op d) h = small-after w 0 d _ (omega arith) h (omega arith, (small-reg (shiftDigit op) d, tt))
 small-encode (shiftImm8 w op d v) h = small-after w 0 d _ (omega arith) (h .0) (omega arith, (small-reg (shiftDigit op) d, (h .1, tt)))
 small-encode (imul w d s) h = small-after w d s _ (h .0) (h .1) (omega arith, (omega arith, (small-reg d s, tt)))
-small-encode (movsxd d s) h = small-after r64 d s _ (h .0) (h .1) (omega arith, (small-reg d s, tt))
-small-encode (setccAl c) h = (omega arith, (omega (arith, cc-lt c), (omega arith, tt)))
-small-encode (movzx d s) h = small-after r64 d s _ (h .0) (h .1) (omega arith, (omega arith, (small-reg d s, tt)))
-small-encode (cmov c d s) h = small-after r64 d s _ (h .0) (h .1) (omega arith, (omega (arith, cc-lt c), (small-reg d s, tt)))
+small-encode (movsxd d s) h = omega arith
+small-encode (setccAl c) h = omega (arith, cc-lt c)
+small-encode (movzx d s) h = omega arith
+small-encode (cmov c d s) h = omega (arith, cc-lt c)
 small-encode callRax h = omega arith
 small-encode ret h = omega arith
 

@@ -169,15 +169,9 @@ block-bytes h1 h2 p a b k o c =
     small-bytes _ (ok-append opening (p .code ++ ending h1 h2 (p .end) (p .added)) opening-allok
     (ok-append (p .code) (ending h1 h2 (p .end) (p .added)) c (end-allok h1 h2 (p .end) (p .added) a b k o)))
 
-opening-long : length (bytes opening) ≡ 32
-unfolding encode rex modReg
-opening-long = refl
-
 block-long : (h1 h2 : ℕ) (p : Walked) → 1 ≤ length (bytes (instrs h1 h2 p))
 unfolding instrs
-block-long h1 h2 p =
-    let rest : List Instr = p .code ++ ending h1 h2 (p .end) (p .added) in
-    rw (bytes-append opening rest) (rw (length-append (bytes opening) (bytes rest)) (omega (arith, opening-long)))
+block-long h1 h2 p = omega arith
 
 -- one step by this instruction
 by-step : (t : Turn) (i : Instr) {u v : State} {ws : List ℕ}

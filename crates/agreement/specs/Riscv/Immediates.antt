@@ -7,17 +7,17 @@ unfoldable pub signExtend : ℕ → ℕ → ℕ
 signExtend zero a = 0
 signExtend (suc k) a = a + a / 2 ^ k * (2 ^ 64 - 2 ^ suc k)
 
-unfoldable pub immI : ℕ → ℕ
+abbrev pub immI : ℕ → ℕ
 immI w = signExtend 12 (bits 31 20 w)
 
-unfoldable pub immS : ℕ → ℕ
+abbrev pub immS : ℕ → ℕ
 immS w = signExtend 12 (bits 31 25 w * 2 ^ 5 + bits 11 7 w)
 
-unfoldable pub immB : ℕ → ℕ
+abbrev pub immB : ℕ → ℕ
 immB w = signExtend 13 (bits 31 31 w * 2 ^ 12 + bits 7 7 w * 2 ^ 11 + bits 30 25 w * 2 ^ 5 + bits 11 8 w * 2)
 
-unfoldable pub immU : ℕ → ℕ
+abbrev pub immU : ℕ → ℕ
 immU w = signExtend 32 (bits 31 12 w * 2 ^ 12)
 
-unfoldable pub immJ : ℕ → ℕ
+abbrev pub immJ : ℕ → ℕ
 immJ w = signExtend 21 (bits 31 31 w * 2 ^ 20 + bits 19 12 w * 2 ^ 12 + bits 20 20 w * 2 ^ 11 + bits 30 21 w * 2)

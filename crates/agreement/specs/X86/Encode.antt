@@ -31,21 +31,21 @@ ccNumber L = 0xC
 ccNumber GE = 0xD
 
 -- 0100WR0B: R extends ModRM.reg, B extends ModRM.rm or the opcode's register; a bare 0x40 is left out
-unfoldable pub rex : Width → ℕ → ℕ → List ℕ
+abbrev pub rex : Width → ℕ → ℕ → List ℕ
 rex r64 r b = (0x48 + 4 * (r / 8) + b / 8) ∷ []
 rex r32 r b = cond (eqb (4 * (r / 8) + b / 8) 0) [] ((0x40 + 4 * (r / 8) + b / 8) ∷ [])
 
 -- ModRM with mod 11: a register in rm
-unfoldable pub modReg : ℕ → ℕ → ℕ
+abbrev pub modReg : ℕ → ℕ → ℕ
 modReg r b = 0xC0 + 8 * (r % 8) + b % 8
 
 -- ModRM with mod 10: a base register and disp32; where its low bits are 4, a SIB byte with no index
-unfoldable pub modMem : ℕ → ℕ → ℕ → List ℕ
+abbrev pub modMem : ℕ → ℕ → ℕ → List ℕ
 modMem r b d = cond (eqb (b % 8) 4)
     ((0x80 + 8 * (r % 8) + 4) ∷ (0x20 + b % 8) ∷ bytesOf 4 d)
     ((0x80 + 8 * (r % 8) + b % 8) ∷ bytesOf 4 d)
 
-unfoldable pub encode : Instr → List ℕ
+abbrev pub encode : Instr → List ℕ
 encode (push r) = rex r32 0 r ++ (0x50 + r % 8) ∷ []
 encode (pop r) = rex r32 0 r ++ (0x58 + r % 8) ∷ []
 encode (mov d s) = rex r64 s d ++ 0x89 ∷ modReg s d ∷ []

@@ -16,7 +16,7 @@ abbrev pub up : ℕ → ℕ
 up a = (a + 1) % 2 ^ 64
 
 -- the n bytes of a number, the least significant first
-unfoldable pub bytesOf : ℕ → ℕ → List ℕ
+abbrev pub bytesOf : ℕ → ℕ → List ℕ
 bytesOf zero v = []
 bytesOf (suc n) v = v % 256 ∷ bytesOf n (v / 256)
 
