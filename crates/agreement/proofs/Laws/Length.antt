@@ -26,12 +26,12 @@ use Rattle.agreement.specs.Translation.Decode32 as Decode32
 abbrev len : List Instr → ℕ
 len is = length (bytes is)
 
-len-append : (xs ys : List Instr) → len (xs ++ ys) ≡ len xs + len ys
+pub len-append : (xs ys : List Instr) → len (xs ++ ys) ≡ len xs + len ys
 len-append xs ys = rw (bytes-append xs ys) (length-append (bytes xs) (bytes ys))
 
 -- 1. Each word's code
 
-len-store : (d : ℕ) → len (storeReg d R10) ≤ 7
+pub len-store : (d : ℕ) → len (storeReg d R10) ≤ 7
 len-store d = go (eqb d 0)
   where
     go : (t : Bool) → len (cond t [] (store RBX (8 * d) R10 ∷ [])) ≤ 7
@@ -44,10 +44,10 @@ len-load r = refl
 len-loads : (r q : ℕ) → len (loadReg R10 r ∷ loadReg R11 q ∷ []) ≡ 14
 len-loads r q = refl
 
-len-compare : (r q : ℕ) → len (compare r q) ≡ 17
+pub len-compare : (r q : ℕ) → len (compare r q) ≡ 17
 len-compare r q = refl
 
-len-body-op : (o : Op) → len (bodyOp o) ≤ 13
+pub len-body-op : (o : Op) → len (bodyOp o) ≤ 13
 len-body-op ADD = omega arith
 len-body-op SUB = omega arith
 len-body-op SLL = omega arith
@@ -66,12 +66,12 @@ len-body-op SRAW = omega arith
 len-body-op MUL = omega arith
 len-body-op MULW = omega arith
 
-len-op : (o : Op) (d p q : ℕ) → len (codeOp o d p q) ≤ 34
+pub len-op : (o : Op) (d p q : ℕ) → len (codeOp o d p q) ≤ 34
 len-op o d p q =
     rw (len-append (loadReg R10 p ∷ loadReg R11 q ∷ []) (bodyOp o ++ storeReg d R10)) (rw (len-append (bodyOp o) (storeReg d R10))
     (omega (arith, len-loads p q, len-body-op o, len-store d)))
 
-len-body-imm : (o : OpImm) (i c d : ℕ) → len (bodyOpImm o i c d) ≤ 20
+pub len-body-imm : (o : OpImm) (i c d : ℕ) → len (bodyOpImm o i c d) ≤ 20
 len-body-imm ADDI i c d = omega arith
 len-body-imm SLTI i c d = omega arith
 len-body-imm SLTIU i c d = omega arith
@@ -86,28 +86,28 @@ len-body-imm SLLIW i c d = omega arith
 len-body-imm SRLIW i c d = omega arith
 len-body-imm SRAIW i c d = omega arith
 
-len-imm : (o : OpImm) (r p i c d : ℕ) → len (codeOpImm o r p i c d) ≤ 34
+pub len-imm : (o : OpImm) (r p i c d : ℕ) → len (codeOpImm o r p i c d) ≤ 34
 len-imm o r p i c d =
     rw (len-append (loadReg R10 p ∷ []) (bodyOpImm o i c d ++ storeReg r R10)) (rw (len-append (bodyOpImm o i c d) (storeReg r R10))
     (omega (arith, len-load p, len-body-imm o i c d, len-store r)))
 
-len-const : (d v : ℕ) → len (codeConst d v) ≤ 17
+pub len-const : (d v : ℕ) → len (codeConst d v) ≤ 17
 len-const d v = go (eqb d 0)
   where
     go : (t : Bool) → len (cond t [] (movImm64 R10 v ∷ store RBX (8 * d) R10 ∷ [])) ≤ 17
     go true = omega arith
     go false = omega arith
 
-len-branch : (c : Branch) (p q n t : ℕ) → len (codeBranch c p q n t) ≡ 44
+pub len-branch : (c : Branch) (p q n t : ℕ) → len (codeBranch c p q n t) ≡ 44
 len-branch c p q n t = refl
 
-len-jal : (d v t : ℕ) → (10 ≤ len (codeJal d v t)) × (len (codeJal d v t) ≤ 27)
+pub len-jal : (d v t : ℕ) → (10 ≤ len (codeJal d v t)) × (len (codeJal d v t) ≤ 27)
 len-jal d v t = rw (len-append (codeConst d v) (movImm64 RAX t ∷ [])) (omega (arith, len-const d v, ten))
   where
     ten : len (movImm64 RAX t ∷ []) ≡ 10
     ten = refl
 
-len-jalr : (d p i l : ℕ) → (10 ≤ len (codeJalr d p i l)) × (len (codeJalr d p i l) ≤ 41)
+pub len-jalr : (d p i l : ℕ) → (10 ≤ len (codeJalr d p i l)) × (len (codeJalr d p i l) ≤ 41)
 len-jalr d p i l = go (eqb d 0)
   where
     code : Bool → List Instr
@@ -119,7 +119,7 @@ len-jalr d p i l = go (eqb d 0)
     go true = omega arith
     go false = omega arith
 
-len-leftover : (o r q : ℕ) → len (leftover o r q) ≤ 17
+pub len-leftover : (o r q : ℕ) → len (leftover o r q) ≤ 17
 len-leftover o r q = leftover-by (λ is. len is ≤ 17) o r q
     (omega (arith, len-compare r q)) (omega (arith, len-loads r q)) (omega (arith, len-load r)) (omega arith)
 

@@ -1,0 +1,186 @@
+-- What the emitter makes of a word, by the definitions of crate agreement (Translation/Kind, Emit and Walk): host instructions, and
+-- how the block goes on behind them.
+use mathlib.Core.Path.{_≡_}
+use mathlib.Core.List.{List, [], _∷_, _++_}
+use mathlib.Core.Bool.{cond}
+use Prim.Native.Nat.{ℕ, _-_, _*_, _/_, _%_, _^_, _<_}
+use lib.Dec.{eqb}
+use Rattle.agreement.specs.Riscv.Instruction.{Instruction, Instruction.op, Instruction.opImm, Instruction.branch, Instruction.access, Instruction.unmodelled, Instruction.LUI, Instruction.AUIPC, Instruction.JAL, Instruction.JALR, Instruction.FENCE, Instruction.FENCE·I, Instruction.other}
+use Rattle.agreement.specs.X86.Form.{RAX, RCX, RDX, RBX, RBP, RSI, RDI, R8, R9, R10, R11, R12, R13, R14, R15, Cc, Alu.add, Alu.and, Instr, Instr.push, Instr.pop, Instr.mov, Instr.callRax, Instr.ret, Instr.movImm64, Instr.store, Instr.aluImm32, Instr.cmov}
+use Rattle.agreement.specs.X86.Encode.{bytes}
+use Rattle.agreement.specs.Translation.Decode32.{opcode, rd, rs1, rs2, imm32, shamt, shamtW, immU, immB, immJ, wrappingAdd}
+use Rattle.agreement.specs.Translation.Emit.{closing, passes, addCount, bodyOp, bodyOpImm, codeOp, codeOpImm, codeConst, codeJal, codeJalr, codeBranch, ccFor, compare, loadReg, storeReg, leftover}
+use Rattle.agreement.specs.Translation.Kind.{kindOp, kindOp32, kindOpImm, kindOpImm32, kindBranch, kindFence}
+use Rattle.agreement.specs.Riscv.Immediates as Manual
+use Rattle.decode.specs.declared.Decoded32.{Decoded32}
+use Rattle.emitter.specs.Written.{Wrote}
+use Rattle.words.specs.declared.X64EmitFlow.{X64EmitFlow}
+use Rattle.words.specs.declared.X64EmitFlow.the-variants.{Continue, Terminate, Refused}
+use Rattle.words.specs.declared.Emitted.{Emitted}
+
+pub record Word : Type 0 where
+  pub flow : X64EmitFlow
+  pub code : List Instr
+
+abbrev pub goesOn : List Instr → Word
+goesOn is = record { flow = Continue; code = is }
+
+abbrev pub ends : List Instr → Word
+ends is = record { flow = Terminate; code = is }
+
+abbrev pub refused : List Instr → Word
+refused is = record { flow = Refused; code = is }
+
+-- the word w at pc
+abbrev pub wordAs : Instruction → ℕ → ℕ → Word
+wordAs (op o) pc w = goesOn (codeOp o (rd w) (rs1 w) (rs2 w))
+wordAs (opImm o) pc w = goesOn (codeOpImm o (rd w) (rs1 w) (imm32 w) (shamt w) (shamtW w))
+wordAs LUI pc w = goesOn (codeConst (rd w) (immU w))
+wordAs AUIPC pc w = goesOn (codeConst (rd w) (wrappingAdd pc (immU w)))
+wordAs FENCE pc w = goesOn []
+wordAs FENCE·I pc w = goesOn []
+wordAs (branch c) pc w = ends (codeBranch c (rs1 w) (rs2 w) (wrappingAdd pc 4) (wrappingAdd pc (immB w)))
+wordAs JAL pc w = ends (codeJal (rd w) (wrappingAdd pc 4) (wrappingAdd pc (immJ w)))
+wordAs JALR pc w = ends (codeJalr (rd w) (rs1 w) (imm32 w) (wrappingAdd pc 4))
+wordAs (access a) pc w = refused (leftover (opcode w) (rs1 w) (rs2 w))
+wordAs (unmodelled u) pc w = refused (leftover (opcode w) (rs1 w) (rs2 w))
+wordAs other pc w = refused (leftover (opcode w) (rs1 w) (rs2 w))
+
+-- the word was written at the emitter's place
+pub record Emits (before : List ℕ) (at : ℕ) (w : Word) (after : List ℕ) (e : Emitted) : Type 0 where
+  pub flows : e .flow ≡ w .flow
+  pub wrote : Wrote before at (bytes (w .code)) after (e .em .at)
+
+-- the part of OP and OP-32 that works on R10 and R11
+abbrev pub opBody : Instruction → Word
+opBody (op o) = goesOn (bodyOp o)
+opBody (opImm o) = refused []
+opBody (branch c) = refused []
+opBody (access a) = refused []
+opBody (unmodelled u) = refused []
+opBody LUI = refused []
+opBody AUIPC = refused []
+opBody JAL = refused []
+opBody JALR = refused []
+opBody FENCE = refused []
+opBody FENCE·I = refused []
+opBody other = refused []
+
+-- the part of OP-IMM and OP-IMM-32 that works on R10
+abbrev pub opImmBody : Instruction → ℕ → ℕ → ℕ → Word
+opImmBody (opImm o) i c d = goesOn (bodyOpImm o i c d)
+opImmBody (op o) i c d = refused []
+opImmBody (branch b) i c d = refused []
+opImmBody (access a) i c d = refused []
+opImmBody (unmodelled u) i c d = refused []
+opImmBody LUI i c d = refused []
+opImmBody AUIPC i c d = refused []
+opImmBody JAL i c d = refused []
+opImmBody JALR i c d = refused []
+opImmBody FENCE i c d = refused []
+opImmBody FENCE·I i c d = refused []
+opImmBody other i c d = refused []
+
+-- the store of the result, where the word goes on
+abbrev pub storeIf : ℕ → X64EmitFlow → List Instr
+storeIf r Continue = storeReg r R10
+storeIf r Terminate = []
+storeIf r Refused = []
+
+-- loads, a body, and the store behind it
+abbrev pub finished : List Instr → Word → ℕ → Word
+finished loads w r = record { flow = w .flow; code = loads ++ (w .code ++ storeIf r (w .flow)) }
+
+-- instructions before a word
+abbrev pub behind : List Instr → Word → Word
+behind is w = record { flow = w .flow; code = is ++ w .code }
+
+-- the part of a branch behind its comparison: the target into RAX where the condition holds, else the next pc
+abbrev pub select : Cc → ℕ → ℕ → List Instr
+select c next target = movImm64 R11 next ∷ movImm64 RAX target ∷ cmov c R11 RAX ∷ mov RAX R11 ∷ []
+
+abbrev pub branchBody : Instruction → ℕ → ℕ → Word
+branchBody (branch c) next target = ends (select (ccFor c) next target)
+branchBody (op o) next target = refused []
+branchBody (opImm o) next target = refused []
+branchBody (access a) next target = refused []
+branchBody (unmodelled u) next target = refused []
+branchBody LUI next target = refused []
+branchBody AUIPC next target = refused []
+branchBody JAL next target = refused []
+branchBody JALR next target = refused []
+branchBody FENCE next target = refused []
+branchBody FENCE·I next target = refused []
+branchBody other next target = refused []
+
+-- JALR: the target in R10, and the link through R11
+abbrev pub jalrTarget : ℕ → ℕ → List Instr
+jalrTarget r i = loadReg R10 r ∷ aluImm32 add R10 i ∷ aluImm32 and R10 (2 ^ 32 - 2) ∷ []
+
+abbrev pub jalrLink : ℕ → ℕ → List Instr
+jalrLink r link = cond (eqb r 0) [] (movImm64 R11 link ∷ store RBX (8 * r) R11 ∷ [])
+
+-- MISC-MEM
+abbrev pub fenceWord : Instruction → Word
+fenceWord FENCE = goesOn []
+fenceWord FENCE·I = goesOn []
+fenceWord (op o) = refused []
+fenceWord (opImm o) = refused []
+fenceWord (branch c) = refused []
+fenceWord (access a) = refused []
+fenceWord (unmodelled u) = refused []
+fenceWord LUI = refused []
+fenceWord AUIPC = refused []
+fenceWord JAL = refused []
+fenceWord JALR = refused []
+fenceWord other = refused []
+
+-- the registers and the immediate are as narrow as their fields
+pub record Small (d : Decoded32) : Type 0 where
+  pub rd-small : d .rd < 32
+  pub rs1-small : d .rs1 < 32
+  pub rs2-small : d .rs2 < 32
+  pub imm12-small : d .imm12 < 4096
+
+-- the word w at pc, by its fields d: the match on the opcode, in the order of the code
+abbrev pub wordBy : ℕ → ℕ → Decoded32 → Word
+wordBy pc w d =
+    cond (eqb (d .opcode) 0x37) (goesOn (codeConst (d .rd) (Manual.immU w))) (
+    cond (eqb (d .opcode) 0x17) (goesOn (codeConst (d .rd) (wrappingAdd pc (Manual.immU w)))) (
+    cond (eqb (d .opcode) 0x6F) (ends (codeJal (d .rd) (wrappingAdd pc 4) (wrappingAdd pc (Manual.immJ w)))) (
+    cond (eqb (d .opcode) 0x67) (ends (codeJalr (d .rd) (d .rs1) (Manual.immI w % 2 ^ 32) (wrappingAdd pc 4))) (
+    cond (eqb (d .opcode) 0x63)
+    (behind (compare (d .rs1) (d .rs2))
+    (branchBody (kindBranch (d .funct3)) (wrappingAdd pc 4) (wrappingAdd pc (Manual.immB w)))) (
+    cond (eqb (d .opcode) 0x13)
+    (finished (loadReg R10 (d .rs1) ∷ [])
+    (opImmBody (kindOpImm (d .funct3) (d .imm12 / 64)) (Manual.immI w % 2 ^ 32) (d .imm12 % 64) (d .imm12 % 32)) (d .rd)) (
+    cond (eqb (d .opcode) 0x1B)
+    (finished (loadReg R10 (d .rs1) ∷ [])
+    (opImmBody (kindOpImm32 (d .funct3) (d .funct7)) (Manual.immI w % 2 ^ 32) (d .imm12 % 64) (d .imm12 % 32)) (d .rd)) (
+    cond (eqb (d .opcode) 0x33)
+    (finished (loadReg R10 (d .rs1) ∷ loadReg R11 (d .rs2) ∷ []) (opBody (kindOp (d .funct3) (d .funct7))) (d .rd)) (
+    cond (eqb (d .opcode) 0x3B)
+    (finished (loadReg R10 (d .rs1) ∷ loadReg R11 (d .rs2) ∷ []) (opBody (kindOp32 (d .funct3) (d .funct7))) (d .rd)) (
+    cond (eqb (d .opcode) 0x0F) (fenceWord (kindFence (d .funct3)))
+    (refused []))))))))))
+
+-- the parts of `opening`, `closing` and `passes`
+abbrev pub pushes : List Instr
+pushes = push RBX ∷ push RBP ∷ push R12 ∷ push R13 ∷ push R14 ∷ push R15 ∷ []
+
+abbrev pub keeps : List Instr
+keeps = mov RBX RDI ∷ mov R12 RSI ∷ mov R13 RDX ∷ mov R14 RCX ∷ mov R15 R8 ∷ mov RBP R9 ∷ []
+
+abbrev pub pops : List Instr
+pops = pop R15 ∷ pop R14 ∷ pop R13 ∷ pop R12 ∷ pop RBP ∷ pop RBX ∷ []
+
+abbrev pub hostArguments : List Instr
+hostArguments = mov RDI R12 ∷ mov RSI R13 ∷ mov RDX R14 ∷ []
+
+abbrev pub guestArguments : ℕ → ℕ → ℕ → List Instr
+guestArguments i pc a = movImm64 RCX i ∷ movImm64 R8 pc ∷ movImm64 RAX a ∷ []
+
+-- a helper end, as `ending` of crate agreement has it
+abbrev pub helperEnd : ℕ → ℕ → ℕ → ℕ → List Instr
+helperEnd i pc a n = passes i pc a ++ callRax ∷ (addCount n ++ (closing ++ ret ∷ []))
