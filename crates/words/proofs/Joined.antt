@@ -15,6 +15,10 @@ use Rattle.words.specs.Word.{Word, Emits, opBody, opImmBody, storeIf, fi
 use Rattle.words.specs.declared.X64EmitFlow.{X64EmitFlow}
 use Rattle.words.specs.declared.Emitted.{Emitted}
 
+-- the same word by another name
+pub alike : {l l′ : List ℕ} {a : ℕ} {v w : Word} {e : Emitted} → v ≡ w → Emits l a v l′ e → Emits l a w l′ e
+alike {l = l} {l′ = l′} {a = a} {e = e} q h = subst (λ (x : Word). Emits l a x l′ e) q h
+
 -- instructions, then more of them
 pub joined : {l m n : List ℕ} {a b c : ℕ} (is js : List Instr)
     → Wrote l a (bytes is) m b → Wrote m b (bytes js) n c → Wrote l a (bytes (is ++ js)) n c

@@ -9,11 +9,11 @@ ghost use Prim.Native.Nat.{_+_, _/_, _%_, _<_, _≤_};
 ghost use lib.ListN.{length};
 ghost use Rattle.agreement.specs.X86.Form.{R10, RAX, callRax, ret, setccAl, movzx, aluImm8, and, RCX, R11, mov};
 ghost use Rattle.agreement.specs.X86.Encode.{encode, bytes};
-ghost use Rattle.agreement.specs.Translation.Kind.{kindOp, kindOp32, kindOpImm, kindOpImm32, kindBranch, kindFence};
+ghost use Rattle.agreement.specs.Translation.Kind.{kind, kindOp, kindOp32, kindOpImm, kindOpImm32, kindBranch, kindFence};
 ghost use Rattle.agreement.specs.Translation.Emit.{loadReg, storeReg, codeConst, codeJal, codeJalr, compare, opening, closing, passes, addCount};
 ghost use Rattle.emitter.specs.Written.{Wrote, Room};
 ghost use Rattle.emitter.specs.Forms.{ccOf};
-ghost use Rattle.words.specs.Word.{Emits, opBody, opImmBody, storeIf, finished, behind, select, branchBody, jalrTarget, jalrLink, fenceWord, Small, wordBy, pushes, keeps, pops, hostArguments, guestArguments, helperEnd};
+ghost use Rattle.words.specs.Word.{Emits, wordAs, opBody, opImmBody, storeIf, finished, behind, select, branchBody, jalrTarget, jalrLink, fenceWord, Small, wordBy, pushes, keeps, pops, hostArguments, guestArguments, helperEnd};
 
 pub enum X64EmitFlow {
     Continue,
@@ -706,13 +706,7 @@ fn fence_word(em: X64Emitter, out: &mut [u8], funct3: u8) -> Emitted
 }
 
 // The match on the opcode. The immediates, the link and the target are worked out once, here.
-pub fn emit_native_instr_x64(
-    em: X64Emitter,
-    out: &mut [u8],
-    pc: u64,
-    instr: u32,
-    d: Decoded32,
-) -> Emitted
+fn emit_by_opcode(em: X64Emitter, out: &mut [u8], pc: u64, instr: u32, d: Decoded32) -> Emitted
     requires { ⌜ Small d × Room (now out) (em .at) 44 ⌝ }
     ensures { λ r. ⌜ Emits (now (out .entry)) (em .at) (wordBy pc instr d) (now (out .exit)) r ⌝ }
 {
@@ -773,6 +767,15 @@ pub fn emit_native_instr_x64(
             em,
         },
     }
+}
+
+// A word of the run at pc: its host instructions, and how the block goes on.
+pub fn emit_native_instr_x64(em: X64Emitter, out: &mut [u8], pc: u64, instr: u32) -> Emitted
+    requires { ⌜ Room (now out) (em .at) 44 ⌝ }
+    ensures { λ r. ⌜ Emits (now (out .entry)) (em .at) (wordAs (kind instr) pc instr) (now (out .exit)) r ⌝ }
+{
+    let d = decode::decode32(instr);
+    emit_by_opcode(em, out, pc, instr, d)
 }
 
 // The callee-saved registers.
