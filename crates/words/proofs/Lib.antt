@@ -1,3 +1,4 @@
 pub mod Choices
 pub mod Joined
 pub mod Opcodes
+pub mod Walking
