@@ -1,4 +1,6 @@
 pub mod Choices
+pub mod Matches
 pub mod Joined
 pub mod Opcodes
 pub mod Walking
+pub mod Accesses

@@ -1,10 +1,9 @@
 -- The match on the opcode gives every word what the definitions of crate agreement give it.
 use mathlib.Core.Path.{_≡_, refl, sym, ap, _∙_}
 use mathlib.Core.Logic.{_≢_}
-use mathlib.Core.Bool.{Bool, true, false, cond}
-use mathlib.Core.List.{List, [], _∷_}
+use mathlib.Core.Bool.{cond}
+use mathlib.Core.List.{[], _∷_}
 use Prim.Native.Nat.{ℕ, _/_, _%_, _^_, _<_}
-use native.Mathlib.Decide.{ℕ-discrete}
 use native.Mathlib.Omega.{arith}
 use borrow.Author.Tests.{ne-eqb}
 use lib.Dec.{eqb}
@@ -15,26 +14,13 @@ use Rattle.agreement.specs.Riscv.Immediates as Manual
 use Rattle.agreement.specs.Riscv.Instruction.{Op, OpImm, Branch, Access, Op.ADD, Op.SUB, Op.MUL, Op.SLL, Op.SLT, Op.SLTU, Op.XOR, Op.SRL, Op.SRA, Op.OR, Op.AND, Op.ADDW, Op.SUBW, Op.MULW, Op.SLLW, Op.SRLW, Op.SRAW, OpImm.ADDI, OpImm.SLTI, OpImm.SLTIU, OpImm.XORI, OpImm.ORI, OpImm.ANDI, OpImm.SLLI, OpImm.SRLI, OpImm.SRAI, OpImm.ADDIW, OpImm.SLLIW, OpImm.SRLIW, OpImm.SRAIW, Branch.BEQ, Branch.BNE, Branch.BLT, Branch.BGE, Branch.BLTU, Branch.BGEU, Instruction, Instruction.op, Instruction.opImm, Instruction.branch, Instruction.access, Instruction.other}
 use Rattle.agreement.specs.X86.Form.{R10, R11}
 use Rattle.agreement.specs.Translation.Emit.{loadReg, compare, leftover}
-use Rattle.agreement.specs.Translation.Kind.{Arm, match, kind, kindOf, kindOp, kindOp32, kindOpImm, kindOpImm32, kindBranch, kindFence, kindLoad, kindStore}
+use Rattle.agreement.specs.Translation.Kind.{match, kind, kindOf, kindOp, kindOp32, kindOpImm, kindOpImm32, kindBranch, kindFence, kindLoad, kindStore}
 use Rattle.agreement.specs.Translation.Decode32.{wrappingAdd}
 use Rattle.agreement.specs.Translation.Decode32 as Decode32
 use Rattle.agreement.proofs.Laws.Fields.{opcode-is, funct3-is, funct7-is, funct6-is, rd-is, rs1-is, rs2-is, shamt5-is, shamt6-is}
 use Rattle.agreement.proofs.Laws.Immediates.{immI-is, immB-is, immU-is, immJ-is}
+use Rattle.words.proofs.Matches.{Each, each, decide}
 use Rattle.words.specs.Word.{Small, wordAs, wordBy, refused, opBody, opImmBody, branchBody, fenceWord, finished, behind}
-
--- what holds of each value, and of `other`, holds of what a match gives
-Each : (Instruction → Type 0) → List Arm → Type 0
-Each P [] = P other
-Each P (a ∷ arms) = P (a .value) × Each P arms
-
-each : (P : Instruction → Type 0) (n : ℕ) (arms : List Arm) → Each P arms → P (match n arms)
-unfolding Each match
-each P n [] h = h
-each P n (a ∷ arms) h = go (eqb n (a .pattern)) (each P n arms (h .1))
-  where
-    go : (t : Bool) → P (match n arms) → P (cond t (a .value) (match n arms))
-    go true r = h .0
-    go false r = r
 
 -- OP and OP-32
 abbrev OpIs : ℕ → ℕ → Instruction → Type 0
@@ -157,11 +143,11 @@ AccessIs pc w k = refused [] ≡ wordAs k pc w
 
 load-is : (pc w f : ℕ) → AccessIs pc w other → AccessIs pc w (kindLoad f)
 unfolding kindLoad Each
-load-is pc w f n = each (AccessIs pc w) f _ (n, (n, (n, (n, (n, (n, (n, n)))))))
+load-is pc w f n = each (AccessIs pc w) f _ (refl, (refl, (refl, (refl, (refl, (refl, (refl, n)))))))
 
 store-is : (pc w f : ℕ) → AccessIs pc w other → AccessIs pc w (kindStore f)
 unfolding kindStore Each
-store-is pc w f n = each (AccessIs pc w) f _ (n, (n, (n, (n, n))))
+store-is pc w f n = each (AccessIs pc w) f _ (refl, (refl, (refl, (refl, n))))
 
 -- the theorem, opcode by opcode
 abbrev WordIs : ℕ → ℕ → Type 0
@@ -248,13 +234,6 @@ none-store pc w e = rw (opcode-is w, e) refl
 at-store : (pc w : ℕ) → opcode w ≡ 0x23 → WordIs pc w
 unfolding kind kindOf match
 at-store pc w e = rw (opcode-is w, funct3-is w, funct7-is w, funct6-is w, e) (store-is pc w (funct3 w) (none-store pc w e))
-
-decide : {A : Type 0} (o k : ℕ) → (o ≡ k → A) → (o ≢ k → A) → A
-decide {A = A} o k y n = go (ℕ-discrete o k)
-  where
-    go : Dec (o ≡ k) → A
-    go (yes e) = y e
-    go (no e) = n e
 
 -- an opcode with no loads leaves nothing
 none-other : (pc w : ℕ) → opcode w ≢ 0x63 → opcode w ≢ 0x33 → opcode w ≢ 0x3B → opcode w ≢ 0x13 → opcode w ≢ 0x1B

@@ -2,14 +2,16 @@
 -- how the block goes on behind them.
 use mathlib.Core.Path.{_≡_}
 use mathlib.Core.List.{List, [], _∷_, _++_}
-use mathlib.Core.Bool.{cond}
+use mathlib.Core.Bool.{Bool, true, false, cond}
 use Prim.Native.Nat.{ℕ, _-_, _*_, _/_, _%_, _^_, _<_}
 use lib.Dec.{eqb}
+use Rattle.agreement.specs.Common.{Helper.forAccess}
 use Rattle.agreement.specs.Riscv.Instruction.{Instruction, Instruction.op, Instruction.opImm, Instruction.branch, Instruction.access, Instruction.unmodelled, Instruction.LUI, Instruction.AUIPC, Instruction.JAL, Instruction.JALR, Instruction.FENCE, Instruction.FENCE·I, Instruction.other}
 use Rattle.agreement.specs.X86.Form.{RAX, RCX, RDX, RBX, RBP, RSI, RDI, R8, R9, R10, R11, R12, R13, R14, R15, Cc, Alu.add, Alu.and, Instr, Instr.push, Instr.pop, Instr.mov, Instr.callRax, Instr.ret, Instr.movImm64, Instr.store, Instr.aluImm32, Instr.cmov}
 use Rattle.agreement.specs.X86.Encode.{bytes}
 use Rattle.agreement.specs.Translation.Decode32.{opcode, rd, rs1, rs2, imm32, shamt, shamtW, immU, immB, immJ, wrappingAdd}
 use Rattle.agreement.specs.Translation.Emit.{closing, passes, addCount, bodyOp, bodyOpImm, codeOp, codeOpImm, codeConst, codeJal, codeJalr, codeBranch, ccFor, compare, loadReg, storeReg, leftover}
+use Rattle.agreement.specs.Translation.Walk.{End, End.calls}
 use Rattle.agreement.specs.Translation.Kind.{kindOp, kindOp32, kindOpImm, kindOpImm32, kindBranch, kindFence}
 use Rattle.agreement.specs.Riscv.Immediates as Manual
 use Rattle.decode.specs.declared.Decoded32.{Decoded32}
@@ -42,9 +44,28 @@ wordAs FENCE·I pc w = goesOn []
 wordAs (branch c) pc w = ends (codeBranch c (rs1 w) (rs2 w) (wrappingAdd pc 4) (wrappingAdd pc (immB w)))
 wordAs JAL pc w = ends (codeJal (rd w) (wrappingAdd pc 4) (wrappingAdd pc (immJ w)))
 wordAs JALR pc w = ends (codeJalr (rd w) (rs1 w) (imm32 w) (wrappingAdd pc 4))
-wordAs (access a) pc w = refused (leftover (opcode w) (rs1 w) (rs2 w))
+wordAs (access a) pc w = refused []
 wordAs (unmodelled u) pc w = refused (leftover (opcode w) (rs1 w) (rs2 w))
 wordAs other pc w = refused (leftover (opcode w) (rs1 w) (rs2 w))
+
+-- a load or store, which goes to the helper: the Rust tries `emit_native_term_mem_helper_x64` behind a refused word
+abbrev pub isAccess : Instruction → Bool
+isAccess (access a) = true
+isAccess (op o) = false
+isAccess (opImm o) = false
+isAccess (branch c) = false
+isAccess (unmodelled u) = false
+isAccess LUI = false
+isAccess AUIPC = false
+isAccess JAL = false
+isAccess JALR = false
+isAccess FENCE = false
+isAccess FENCE·I = false
+isAccess other = false
+
+-- how a block ends at a word that the emitter refused
+abbrev pub refusedEnd : Instruction → ℕ → ℕ → End
+refusedEnd k pc w = cond (isAccess k) (calls forAccess w pc) (End.goesOn pc)
 
 -- the word was written at the emitter's place
 pub record Emits (before : List ℕ) (at : ℕ) (w : Word) (after : List ℕ) (e : Emitted) : Type 0 where

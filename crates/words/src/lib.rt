@@ -13,7 +13,7 @@ ghost use Rattle.agreement.specs.Translation.Kind.{kind, kindOp, kindOp32, kind
 ghost use Rattle.agreement.specs.Translation.Emit.{loadReg, storeReg, codeConst, codeJal, codeJalr, compare, opening, closing, passes, addCount};
 ghost use Rattle.emitter.specs.Written.{Wrote, Room};
 ghost use Rattle.emitter.specs.Forms.{ccOf};
-ghost use Rattle.words.specs.Word.{Emits, wordAs, opBody, opImmBody, storeIf, finished, behind, select, branchBody, jalrTarget, jalrLink, fenceWord, Small, wordBy, pushes, keeps, pops, hostArguments, guestArguments, helperEnd};
+ghost use Rattle.words.specs.Word.{Emits, wordAs, isAccess, opBody, opImmBody, storeIf, finished, behind, select, branchBody, jalrTarget, jalrLink, fenceWord, Small, wordBy, pushes, keeps, pops, hostArguments, guestArguments, helperEnd};
 
 pub enum X64EmitFlow {
     Continue,
@@ -776,6 +776,19 @@ pub fn emit_native_instr_x64(em: X64Emitter, out: &mut [u8], pc: u64, instr: u32
 {
     let d = decode::decode32(instr);
     emit_by_opcode(em, out, pc, instr, d)
+}
+
+// The loads and stores that go to the helper: the test in the Rust's `emit_native_term_mem_helper_x64`.
+pub fn is_load_or_store(instr: u32) -> bool
+    ensures { λ r. ⌜ r ≡ isAccess (kind instr) ⌝ }
+{
+    let d = decode::decode32(instr);
+    let opcode = d.opcode;
+    match opcode {
+        isa::OPCODE_LOAD => d.funct3 <= isa::F3_LWU,
+        isa::OPCODE_STORE => d.funct3 <= isa::F3_SD,
+        _ => false,
+    }
 }
 
 // The callee-saved registers.

@@ -126,19 +126,19 @@ len-leftover o r q = leftover-by (λ is. len is ≤ 17) o r q
 -- 2. A walk: what its words and its end have together
 
 -- the least and the greatest length of an end
-unfoldable least : End → ℕ
+unfoldable pub least : End → ℕ
 least (goesOn pc) = 35
 least jumped = 25
 least (calls h i pc) = 56
 
-unfoldable most : End → ℕ
+unfoldable pub most : End → ℕ
 most (goesOn pc) = 35
 most jumped = 25
 most (calls h i pc) = 63
 
-record Sized (n : ℕ) (p : Walked) : Type 0 where
-  low : 35 ≤ len (p .code) + least (p .end)
-  high : len (p .code) + most (p .end) ≤ 34 * n + 35
+pub record Sized (n : ℕ) (p : Walked) : Type 0 where
+  pub low : 35 ≤ len (p .code) + least (p .end)
+  pub high : len (p .code) + most (p .end) ≤ 34 * n + 35
 
 sized-before : (n : ℕ) (is : List Instr) (p : Walked) → len is ≤ 34 → Sized n p → Sized (suc n) (before is p)
 sized-before n is p l s = record {
@@ -192,7 +192,7 @@ sized-emit (access a) n pc w p s = sized-helps n forAccess w pc
 sized-emit (unmodelled o) n pc w p s = sized-refused n pc w
 sized-emit other n pc w p s = sized-refused n pc w
 
-sized : (n pc : ℕ) (hs : List ℕ) → Sized n (walk n pc hs)
+pub sized : (n pc : ℕ) (hs : List ℕ) → Sized n (walk n pc hs)
 unfolding walk
 sized zero pc hs = sized-stops zero pc
 sized (suc n) pc [] = sized-stops (suc n) pc

@@ -1,0 +1,4 @@
+pub mod Fetching
+pub mod Stepping
+pub mod Written
+pub mod Replying

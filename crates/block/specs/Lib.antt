@@ -1,0 +1,4 @@
+pub mod Fetch
+pub mod First
+pub mod Walks
+pub mod Answers

@@ -1,0 +1,95 @@
+// `compile_native_block` of src/hart/jit_amd64.rs: a run of halfwords becomes a block at the front of a lent output.
+mod close;
+mod fetch;
+mod first;
+mod walk;
+
+use crate::close::Compiled;
+use crate::first::First;
+use emitter::X64Emitter;
+ghost use mathlib.Core.Path.{_≡_};
+ghost use Prim.Native.Nat.{min, _≤_};
+ghost use Rattle.agreement.specs.Translation.Walk.{walk};
+ghost use Rattle.agreement.specs.Translation.Replies.{blockOf};
+ghost use Rattle.emitter.specs.Written.{Room};
+ghost use Rattle.block.specs.Answers.{Translates};
+ghost use Rattle.block.specs.Walks.{Compiles};
+
+// Document 01, "Replies". `specs/Answers` gives each case its number and values.
+pub enum Answer {
+    Block { length: usize, count: u32 },
+    LimitZero,
+    OddStart(u64),
+    Missing(u32),
+    NotTaken(u32),
+    OutputShort,
+}
+
+// The least output that is accepted: the greatest length of a block.
+const GREATEST: usize = 2243;
+
+const MOST_STEPS: u32 = 64;
+
+fn steps(limit: u32) -> u32
+    ensures { λ r. ⌜ (r ≡ min limit 64) × (r ≤ 64) ⌝ }
+{
+    if limit < MOST_STEPS {
+        limit
+    } else {
+        MOST_STEPS
+    }
+}
+
+// The block at the front of the output.
+fn compile_native_block(
+    start: u64,
+    steps: u32,
+    halfwords: &[u16],
+    helper16: u64,
+    helper_mem: u64,
+    out: &mut [u8],
+) -> Compiled
+    requires { ⌜ (steps ≤ 64) × Room (now out) 0 2243 ⌝ }
+    ensures { λ r. ⌜ Compiles (blockOf helper16 «helper_mem» (walk steps start (now (halfwords .entry)))) (now (out .entry)) (now (out .exit)) r ⌝ }
+{
+    let a = words::x64_emit_prologue(X64Emitter { at: 0 }, out);
+    let w = walk::emit_words(a, out, halfwords, 0, start, 0, steps);
+    let b = w.em;
+    let end = w.end;
+    close::close(b, out, end, w.emitted, helper16, helper_mem)
+}
+
+pub fn translate(
+    start: u64,
+    limit: u32,
+    halfwords: &[u16],
+    helper16: u64,
+    helper_mem: u64,
+    out: &mut [u8],
+) -> Answer
+    ensures { λ r. ⌜ Translates start limit (now (halfwords .entry)) helper16 «helper_mem» (now (out .entry)) (now (out .exit)) r ⌝ }
+{
+    if limit == 0 {
+        return Answer::LimitZero;
+    }
+    if start % 2 == 1 {
+        return Answer::OddStart(start);
+    }
+    let first = first::first_word(halfwords);
+    match first {
+        First::Lacks(index) => Answer::Missing(index),
+        First::Refuses(word) => Answer::NotTaken(word),
+        First::Begins => {
+            if out.len() < GREATEST {
+                return Answer::OutputShort;
+            }
+            let n = steps(limit);
+            let b = compile_native_block(start, n, halfwords, helper16, helper_mem, out);
+            let em = b.em;
+            Answer::Block {
+                length: em.at,
+                count: b.count,
+            }
+        }
+    }
+}
