@@ -2,3 +2,5 @@ pub mod Fetching
 pub mod Stepping
 pub mod Written
 pub mod Replying
+pub mod Reading
+pub mod Turns

@@ -9,13 +9,14 @@ use native.Mathlib.Omega.{arith}
 use borrow.Author.Tests.{eq-eqb, ne-eqb, lt-ltb, le-ltb}
 use lib.Dec.{eqb}
 use lib.ListN.{length}
+use lib.Seq.{length-take-le}
 use Rattle.agreement.specs.Common.{greatest, mostSteps}
 use Rattle.agreement.specs.Translation.Walk.{walk}
 use Rattle.agreement.specs.Translation.Replies.{Block, Reply, Reply.block, Reply.refusal, Refusal.limitZero, Refusal.oddStart, Refusal.missing, Refusal.notTaken, Refusal.outputShort, First, First.begins, First.lacks, First.refuses, first, byFirst, blockOf, walked, translate, numbered, outputAfter}
 use Rattle.agreement.proofs.Laws.Length.{block-length}
 use Rattle.emitter.proofs.Laws.{parts}
 use Rattle.block.specs.Walks.{Compiles}
-use Rattle.block.specs.Answers.{Answers}
+use Rattle.block.specs.Answers.{Answers, Fits}
 use Rattle.block.specs.declared.Answer.{Answer}
 use Rattle.block.specs.declared.Answer.the-variants as Answer
 use Rattle.block.specs.declared.close.Compiled.{Compiled}
@@ -98,10 +99,18 @@ at-front {b = b} f h = record {
   leaves = parts (record { fits = omega (arith, f) }) (h .wrote) ∙ rw zero-add refl;
 }
 
+fits : {l l′ : List ℕ} {b : Block} {r : Compiled} → length (b .code) ≤ length l → Compiles b l l′ r
+    → Fits (Answer.Block (r .em .at) (r .count)) l′
+fits {l′ = l′} {r = r} f h =
+    let g : r .em .at ≤ length l′ = omega (arith, f, h .wrote .place, h .wrote .size) in
+    (g, sym (length-take-le (r .em .at) l′ g))
+
 pub made : {p : Reply} {l l′ : List ℕ} {r : Compiled} (start limit : ℕ) (hs : List ℕ) (h16 hm steps : ℕ)
     → greatest ≤ length l → p ≡ byFirst begins (length l) (blockOf h16 hm (walked start limit hs))
     → steps ≡ min limit mostSteps → Compiles (blockOf h16 hm (walk steps start hs)) l l′ r
-    → Answers p l l′ (Answer.Block (r .em .at) (r .count))
+    → Answers p l l′ (Answer.Block (r .em .at) (r .count)) × Fits (Answer.Block (r .em .at) (r .count)) l′
 made {l = l} {l′ = l′} {r = r} start limit hs h16 hm steps s e n h =
-    named (e ∙ if-long (length l) (blockOf h16 hm (walked start limit hs)) s)
-    (at-front (omega (arith, s, block-length h16 hm (min limit mostSteps) start hs)) (rw n at h))
+    let b : Block = blockOf h16 hm (walked start limit hs) in
+    let k : Compiles b l l′ r = rw n at h in
+    let f : length (b .code) ≤ length l = omega (arith, s, block-length h16 hm (min limit mostSteps) start hs) in
+    (named (e ∙ if-long (length l) b s) (at-front f k), fits f k)

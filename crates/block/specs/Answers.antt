@@ -2,8 +2,8 @@
 -- (Translation/Replies) gives them to the definition's replies.
 use mathlib.Core.Path.{_≡_}
 use mathlib.Core.List.{List, [], _∷_}
-use Prim.Native.Nat.{ℕ}
-use lib.ListN.{length}
+use Prim.Native.Nat.{ℕ, _≤_}
+use lib.ListN.{length, take}
 use Rattle.agreement.specs.Translation.Replies.{numbered, outputAfter}
 use Rattle.agreement.specs.Translation.Replies as Replies
 use Rattle.block.specs.declared.Answer.{Answer}
@@ -25,3 +25,12 @@ pub record Answers (reply : Replies.Reply) (before after : List ℕ) (r : Answer
 abbrev pub Translates : ℕ → ℕ → List ℕ → ℕ → ℕ → List ℕ → List ℕ → Answer → Type 0
 Translates start limit halfwords helper16 helperMem before after r =
     Answers (Replies.translate start limit halfwords helper16 helperMem (length before)) before after r
+
+-- the length of a block counts bytes at the front of the output, so that a caller can lend them on. It follows from `Translates`.
+abbrev pub Fits : Answer → List ℕ → Type 0
+Fits (Block n count) after = (n ≤ length after) × (n ≡ length (take n after))
+Fits LimitZero after = Unit
+Fits (OddStart start) after = Unit
+Fits (Missing index) after = Unit
+Fits (NotTaken word) after = Unit
+Fits OutputShort after = Unit

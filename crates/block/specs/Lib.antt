@@ -2,3 +2,5 @@ pub mod Fetch
 pub mod First
 pub mod Walks
 pub mod Answers
+pub mod Reading
+pub mod Turns

@@ -12,7 +12,7 @@ ghost use Prim.Native.Nat.{min, _≤_};
 ghost use Rattle.agreement.specs.Translation.Walk.{walk};
 ghost use Rattle.agreement.specs.Translation.Replies.{blockOf};
 ghost use Rattle.emitter.specs.Written.{Room};
-ghost use Rattle.block.specs.Answers.{Translates};
+ghost use Rattle.block.specs.Answers.{Translates, Fits};
 ghost use Rattle.block.specs.Walks.{Compiles};
 
 // Document 01, "Replies". `specs/Answers` gives each case its number and values.
@@ -68,6 +68,7 @@ pub fn translate(
     out: &mut [u8],
 ) -> Answer
     ensures { λ r. ⌜ Translates start limit (now (halfwords .entry)) helper16 «helper_mem» (now (out .entry)) (now (out .exit)) r ⌝ }
+    ensures { λ r. ⌜ Fits r (now (out .exit)) ⌝ }
 {
     if limit == 0 {
         return Answer::LimitZero;

@@ -1,16 +1,16 @@
--- The index stays within the text.
-use Prim.Native.Nat.{_-_, _≤_}
+-- The index stays within the text, and the line keeps its length.
+use Prim.Native.Nat.{_-_}
 use mathlib.Core.Path.{_≡_}
-use borrow.Author.Needs.{needs}
 use lib.ListN.{length}
+use borrow.Author.Needs.{needs}
 use Rattle.replay.proofs.feed.Statement.{statement}
 use Rattle.replay.proofs.feed.Tie as tie
 
 abbrev Inv-loop : tie.InvT-loop
-Inv-loop text now₀ i₀ i-end now i = (i ≤ length text) × (i-end ≡ length text)
+Inv-loop text line₀ used n₀ i₀ i-end line n i = (i-end ≡ length text) × (length line ≡ length line₀)
 
 abbrev μ-loop : tie.MeasureT-loop
-μ-loop text now₀ i₀ i-end now i = length text - i
+μ-loop text line₀ used n₀ i₀ i-end line n i = i-end - i
 
 pub feed-spec : {M : Type 1} → statement M
 feed-spec =
@@ -21,7 +21,7 @@ feed-spec =
     (λ c. search needs)
     (λ c. search needs)
     (λ c κs. search needs)
-    (λ c κs. search needs)
+    (λ c. search needs)
     (λ c. search needs)
     (λ c. search needs)
     (λ c. search needs)

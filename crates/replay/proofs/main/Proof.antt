@@ -1,15 +1,15 @@
--- The buffer keeps its length, and each read uses up one of those that are left.
+-- The buffers keep their lengths, and each read uses up one of those that are left.
 use mathlib.Core.Path.{_≡_}
-use borrow.Author.Needs.{needs}
 use lib.ListN.{length}
+use borrow.Author.Needs.{needs}
 use Rattle.replay.proofs.main.Statement.{statement}
 use Rattle.replay.proofs.main.Tie as tie
 
 abbrev Inv-loop : tie.InvT-loop
-Inv-loop buf₀ line₀ left₀ buf line left = 65536 ≡ length buf
+Inv-loop buf₀ line₀ used₀ left₀ buf line used left = (65536 ≡ length buf) × (8192 ≡ length line)
 
 abbrev μ-loop : tie.MeasureT-loop
-μ-loop buf₀ line₀ left₀ buf line left = left
+μ-loop buf₀ line₀ used₀ left₀ buf line used left = left
 
 pub main-spec : {M : Type 1} → statement M
 main-spec =
@@ -25,11 +25,12 @@ main-spec =
     (λ c. search needs)
     (λ c. search needs)
     (λ c. search needs)
-    (λ c κs. search needs)
-    (λ c. search needs)
-    (λ c. search needs)
-    (λ c. search needs)
-    (λ c. search needs)
     (λ c. search needs)
     (λ c κs. search needs)
+    (λ c. search needs)
+    (λ c. search needs)
+    (λ c. search needs)
+    (λ c. search needs)
+    (λ c κs. search needs)
+    (λ c. search needs)
     (λ c. search needs))

@@ -1,0 +1,33 @@
+-- The index stays within the line.
+use Prim.Native.Nat.{_-_}
+use mathlib.Core.Path.{_≡_}
+use lib.ListN.{length}
+use borrow.Author.Needs.{needs}
+use Rattle.replay.proofs.fields.hexadecimal.Statement.{statement}
+use Rattle.replay.proofs.fields.hexadecimal.Tie as tie
+
+abbrev Inv-loop : tie.InvT-loop
+Inv-loop line from value₀ at₀ at-end value at = at-end ≡ length line
+
+abbrev μ-loop : tie.MeasureT-loop
+μ-loop line from value₀ at₀ at-end value at = length line - at
+
+pub hexadecimal-spec : {M : Type 1} → statement M
+hexadecimal-spec =
+    tie.close
+    (tie.spec
+    Inv-loop
+    μ-loop
+    (λ c. search needs)
+    (λ c. search needs)
+    (λ c κs. search needs)
+    (λ c. search needs)
+    (λ c κs. search needs)
+    (λ c. search needs)
+    (λ c. search needs)
+    (λ c. search needs)
+    (λ c. search needs)
+    (λ c. search needs)
+    (λ c. search needs)
+    (λ c. search needs)
+    (λ c. search needs))

@@ -1,0 +1,47 @@
+-- The halfwords so far are the first of the code.
+use Prim.Native.Nat.{_-_, _/_, _≤_}
+use mathlib.Core.Path.{_≡_, refl}
+use native.Mathlib.Omega.{arith}
+use lib.ListN.{length, take}
+use Rattle.translate.specs.Program.{halfwordsOf}
+use Rattle.translate.proofs.Halfwords.{one-more, all-read}
+use borrow.Author.Needs.{needs}
+use Rattle.translate.proofs.read_halfwords.Statement.{statement}
+use Rattle.translate.proofs.read_halfwords.Tie as tie
+
+abbrev Inv-loop : tie.InvT-loop
+Inv-loop code halfwords₀ n i₀ halfwords i = (i ≤ n) × (n ≡ length code / 2) × (length halfwords ≡ length halfwords₀) × (take i halfwords ≡ take i (halfwordsOf code))
+
+abbrev μ-loop : tie.MeasureT-loop
+μ-loop code halfwords₀ n i₀ halfwords i = n - i
+
+pub read-halfwords-spec : {M : Type 1} → statement M
+read-halfwords-spec =
+    tie.close
+    (tie.spec
+    Inv-loop
+    μ-loop
+    (λ c. (omega arith, refl, refl, refl))
+    (λ c. search needs)
+    (λ c. search needs)
+    (λ c. search needs)
+    (λ c. search needs)
+    (λ c. search needs)
+    (λ c κs. search needs)
+    (λ c. search needs)
+    (λ c. search needs)
+    (λ c. search needs)
+    (λ c. search needs)
+    (λ c.
+    let L = c .before .before .before .before .loop in
+    let code = c .before .before .before .before .before .before .before .args .code .now in (
+      omega arith,
+      L .inv .1,
+      search needs,
+      one-more (L .halfwords) code (L .i) _ (omega arith) (omega arith) (c .low-and-high .ensures) (L .inv .3),
+    ))
+    (λ c. search needs)
+    (λ c.
+    let L = c .before .loop in
+    let code = c .before .before .before .before .args .code .now in
+    (all-read _ code (L .i) _ (L .inv .0) (c .loop-test .left) refl (L .inv .3), omega arith)))
