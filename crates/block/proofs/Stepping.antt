@@ -52,7 +52,8 @@ step n pc (h ∷ u ∷ hs) = go (eqb (bitAnd h 0x3) 0x3)
     p : Walked
     p = walk n (wrappingAdd pc 4) hs
 
-    go : (t : Bool) → elim t [ true ↦ emit (kind w) pc w p | false ↦ helps forHalfword h pc ] ≡ byFetched (cond t (Word w) (Half h)) pc p
+    go : (t : Bool) → elim t [ true ↦ emit (kind w) pc w p | false ↦ helps forHalfword h pc ]
+        ≡ byFetched (cond t (Word w) (Half h)) pc p
     go true = refl
     go false = refl
 
@@ -79,8 +80,9 @@ pub at-word : (n pc : ℕ) (hs : List ℕ) {w : ℕ} {f : X64EmitFlow} → n ≢
     → walk n pc hs
     ≡ byFlow f (wordAs (kind w) pc w .code) (refusedEnd (kind w) pc w) (walk (n - 1) (wrappingAdd pc 4) (drop 2 hs))
 at-word n pc hs {w} h e t =
-    some-left n pc hs h e ∙ walks-on (kind w) pc w (walk (n - 1) (wrappingAdd pc 4) (drop 2 hs))
-    ∙ ap (λ (g : X64EmitFlow). byFlow g (wordAs (kind w) pc w .code) (refusedEnd (kind w) pc w) (walk (n - 1) (wrappingAdd pc 4) (drop 2 hs))) t
+    let p : Walked = walk (n - 1) (wrappingAdd pc 4) (drop 2 hs) in
+    some-left n pc hs h e ∙ walks-on (kind w) pc w p
+    ∙ ap (λ (g : X64EmitFlow). byFlow g (wordAs (kind w) pc w .code) (refusedEnd (kind w) pc w) p) t
 
 -- the run behind a word, from the start of the run and from the word
 pub behind : (n pc next k : ℕ) (hs : List ℕ) → next ≡ wrappingAdd pc 4

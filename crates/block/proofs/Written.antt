@@ -32,6 +32,12 @@ going {w = w} {p = p} h k = record {
   wrote = joined (w .code) (p .code) (h .wrote) (k .wrote);
 }
 
+-- a refused word ends the walk
+pub stopping : {l m : List ℕ} {a n : ℕ} {w : Word} {e : Emitted} {q : Translation.End} {r : Walked}
+    → Emits l a w m e → (r .em ≡ e .em) × (r .emitted ≡ n) × (endAs (r .end) ≡ q)
+    → Walks l a n (record { code = w .code; added = 0; end = q }) m r
+stopping h k = record { ends = k .2; counts = omega (arith, k .1); wrote = rw (k .0) (h .wrote) }
+
 -- the greatest length of an end
 most-is : (e : Translation.End) → Length.most e ≡ most e
 unfolding Length.most

@@ -32,7 +32,8 @@ pub record Walks (before : List ℕ) (at n : ℕ) (p : Translation.Walked) (afte
   pub wrote : Wrote before at (bytes (p .code)) after (r .em .at)
 
 -- the end e, behind n words, was written at the emitter's place
-pub record Closes (before : List ℕ) (at helper16 helperMem : ℕ) (e : Translation.End) (n : ℕ) (after : List ℕ) (r : Compiled) : Type 0 where
+pub record Closes (before : List ℕ) (at helper16 helperMem : ℕ) (e : Translation.End) (n : ℕ) (after : List ℕ) (r : Compiled)
+    : Type 0 where
   pub counts : r .count ≡ counted e n
   pub wrote : Wrote before at (bytes (ending helper16 helperMem e n)) after (r .em .at)
 

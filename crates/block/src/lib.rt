@@ -50,7 +50,8 @@ fn compile_native_block(
     out: &mut [u8],
 ) -> Compiled
     requires { ⌜ (steps ≤ 64) × Room (now out) 0 2243 ⌝ }
-    ensures { λ r. ⌜ Compiles (blockOf helper16 «helper_mem» (walk steps start (now (halfwords .entry)))) (now (out .entry)) (now (out .exit)) r ⌝ }
+    ensures { λ r. ⌜ Compiles (blockOf helper16 «helper_mem» (walk steps start (now (halfwords .entry))))
+        (now (out .entry)) (now (out .exit)) r ⌝ }
 {
     let a = words::x64_emit_prologue(X64Emitter { at: 0 }, out);
     let w = walk::emit_words(a, out, halfwords, 0, start, 0, steps);
@@ -67,7 +68,8 @@ pub fn translate(
     helper_mem: u64,
     out: &mut [u8],
 ) -> Answer
-    ensures { λ r. ⌜ Translates start limit (now (halfwords .entry)) helper16 «helper_mem» (now (out .entry)) (now (out .exit)) r ⌝ }
+    ensures { λ r. ⌜ Translates start limit (now (halfwords .entry)) helper16 «helper_mem»
+        (now (out .entry)) (now (out .exit)) r ⌝ }
     ensures { λ r. ⌜ Fits r (now (out .exit)) ⌝ }
 {
     if limit == 0 {

@@ -19,14 +19,22 @@ pub struct Walked {
     pub end: End,
 }
 
-// A word that the emitter refused is a load or store for the helper, or the block goes on at its pc.
-fn end_at(pc: u64, instr: u32) -> End
-    ensures { λ r. ⌜ endAs r ≡ refusedEnd (kind instr) pc instr ⌝ }
+// A word that the emitter refused leaves its bytes and counts nothing. It is a load or store for the helper, or the block goes on at
+// its pc.
+fn refused(em: X64Emitter, pc: u64, emitted: u32, instr: u32) -> Walked
+    ensures { λ r. ⌜ (r .em ≡ em) × (r .emitted ≡ emitted) × (endAs (r .end) ≡ refusedEnd (kind instr) pc instr) ⌝ }
 {
     if words::is_load_or_store(instr) {
-        End::HelperMem(instr, pc)
-    } else {
-        End::GoesOn(pc)
+        return Walked {
+            em,
+            emitted,
+            end: End::HelperMem(instr, pc),
+        };
+    }
+    Walked {
+        em,
+        emitted,
+        end: End::GoesOn(pc),
     }
 }
 
@@ -41,7 +49,8 @@ pub fn emit_words(
     left: u32,
 ) -> Walked
     requires { ⌜ (k + 2 * left < 2 ^ 64) × (emitted + left ≤ 64) × Room (now out) (em .at) (34 * left + 35) ⌝ }
-    ensures { λ r. ⌜ Walks (now (out .entry)) (em .at) emitted (walk left pc (drop k (now (halfwords .entry)))) (now (out .exit)) r × (r .emitted ≤ 64) ⌝ }
+    ensures { λ r. ⌜ Walks (now (out .entry)) (em .at) emitted (walk left pc (drop k (now (halfwords .entry))))
+        (now (out .exit)) r × (r .emitted ≤ 64) ⌝ }
 {
     if left == 0 {
         return Walked {
@@ -76,11 +85,7 @@ pub fn emit_words(
                     emitted: emitted + 1,
                     end: End::Jumped,
                 },
-                X64EmitFlow::Refused => Walked {
-                    em: next,
-                    emitted,
-                    end: end_at(pc, instr),
-                },
+                X64EmitFlow::Refused => refused(next, pc, emitted, instr),
             }
         }
     }

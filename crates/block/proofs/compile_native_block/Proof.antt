@@ -5,14 +5,21 @@ use Rattle.block.proofs.compile_native_block.Tie as tie
 
 room : tie.Need-close-requires
 room c κs =
-    let a = c .before .before .before .before .before .before .before .before .before .before .before .before .args in
-    let w = c .before .before .before .before .emit-words .ensures in (
+    let walking = c .before .before .before .before in
+    let opening = walking .before .before .before .before in
+    let start = opening .before .before .before .before in
+    let w = walking .emit-words .ensures in (
       w .1,
-      room-to-close (a .steps) (a .start) _ (c .before .before .before .before .before .before .before .before .before .before .before .before .pre .0) (c .before .before .before .before .before .before .before .before .before .before .before .before .pre .1) (c .before .before .before .before .before .before .before .before .x64-emit-prologue .ensures) (w .0),
+      room-to-close (start .args .steps) (start .args .start) _ (start .pre .0) (start .pre .1)
+          (opening .x64-emit-prologue .ensures) (w .0),
     )
 
 returns : tie.Need-returns
-returns c = compiled _ _ _ (c .before .before .before .before .before .before .before .before .before .before .before .x64-emit-prologue .ensures) (c .before .before .before .before .before .before .before .emit-words .ensures .0) (c .before .before .close .ensures)
+returns c =
+    let closing = c .before .before in
+    let walking = closing .before .before .before .before .before in
+    let opening = walking .before .before .before .before in
+    compiled _ _ _ (opening .x64-emit-prologue .ensures) (walking .emit-words .ensures .0) (closing .close .ensures)
 
 pub compile-native-block-spec : {M : Type 1} → statement M
 compile-native-block-spec =

@@ -12,37 +12,34 @@ returns-2 : tie.Need-returns-2
 returns-2 c = (odd-start (if-odd-start _ _ _ _ _ _ (c .before .if1 .left) (c .if2 .taken)), tt)
 
 returns-3 : tie.Need-returns-3
-returns-3 c = (
-  output-short _ (c .if3 .taken)
-      (if-first _ _ _ _ _ _ (c .before .before .before .before .before .if1 .left) (c .before .before .before .before .if2 .left)
-      (sym (c .before .before .before .first-word .ensures) ∙ ap firstAs (c .before .enum-told .given .1))),
-  tt,
-)
+returns-3 c =
+    let looking = c .before .before .before in
+    let known = sym (looking .first-word .ensures) ∙ ap firstAs (c .before .enum-told .given .1) in
+    (output-short _ (c .if3 .taken) (if-first _ _ _ _ _ _ (looking .before .before .if1 .left) (looking .before .if2 .left) known), tt)
 
 returns-4 : tie.Need-returns-4
-returns-4 c = (
-  missing-halfword _ _
-      (if-first _ _ _ _ _ _ (c .before .before .before .before .before .if1 .left) (c .before .before .before .before .if2 .left)
-      (sym (c .before .before .before .first-word .ensures) ∙ ap firstAs (c .before .first .given .1))),
-  tt,
-)
+returns-4 c =
+    let looking = c .before .before .before in
+    let known = sym (looking .first-word .ensures) ∙ ap firstAs (c .before .first .given .1) in
+    (missing-halfword _ _ (if-first _ _ _ _ _ _ (looking .before .before .if1 .left) (looking .before .if2 .left) known), tt)
 
 returns-5 : tie.Need-returns-5
-returns-5 c = (
-  not-taken _ _
-      (if-first _ _ _ _ _ _ (c .before .before .before .before .before .if1 .left) (c .before .before .before .before .if2 .left)
-      (sym (c .before .before .before .first-word .ensures) ∙ ap firstAs (c .before .first2 .given .1))),
-  tt,
-)
+returns-5 c =
+    let looking = c .before .before .before in
+    let known = sym (looking .first-word .ensures) ∙ ap firstAs (c .before .first2 .given .1) in
+    (not-taken _ _ (if-first _ _ _ _ _ _ (looking .before .before .if1 .left) (looking .before .if2 .left) known), tt)
 
 returns-6 : tie.Need-returns-6
 returns-6 c =
-    let a = c .before .before .before .before .before .before .before .before .before .before .before .before .before .before .args in
-    made (a .start) (a .limit) _ _ _ _ (c .before .before .before .before .before .before .if3 .left)
-    (if-first _ _ _ _ _ _ (c .before .before .before .before .before .before .before .before .before .before .before .if1 .left)
-    (c .before .before .before .before .before .before .before .before .before .before .if2 .left)
-    (sym (c .before .before .before .before .before .before .before .before .before .first-word .ensures) ∙ ap firstAs (c .before .before .before .before .before .before .before .enum-told .given .1)))
-    (c .before .before .before .before .before .steps .ensures .0) (c .before .before .before .compile-native-block .ensures)
+    let compiling = c .before .before .before in
+    let stepping = compiling .before .before in
+    let room = stepping .before in
+    let looking = room .before .before .before in
+    let a = looking .before .before .before .before .before .args in
+    let known = sym (looking .first-word .ensures) ∙ ap firstAs (room .before .enum-told .given .1) in
+    made (a .start) (a .limit) _ _ _ _ (room .if3 .left)
+    (if-first _ _ _ _ _ _ (looking .before .before .if1 .left) (looking .before .if2 .left) known)
+    (stepping .steps .ensures .0) (compiling .compile-native-block .ensures)
 
 pub translate-spec : {M : Type 1} → statement M
 translate-spec =

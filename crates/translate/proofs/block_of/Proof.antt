@@ -8,9 +8,12 @@ use Rattle.translate.proofs.block_of.Tie as tie
 
 returns : tie.Need-returns
 returns c =
-    let T = c .before .before .before .translate .ensures in (
-      written-is (c .before .before .before .translate .result) _ (c .block-length .ensures) (rw (c .before .before .before .before .before .before .before .read-halfwords .ensures .0) at (T .0)),
-      counted _ (c .before .before .before .translate .result) _ (c .block-length .ensures) (T .1),
+    let translating = c .before .before .before in
+    let reading = translating .before .before .before .before in
+    let T = translating .translate .ensures in
+    let r = translating .translate .result in (
+      written-is r _ (c .block-length .ensures) (rw (reading .read-halfwords .ensures .0) at (T .0)),
+      counted _ r _ (c .block-length .ensures) (T .1),
     )
 
 pub block-of-spec : {M : Type 1} → statement M

@@ -10,7 +10,8 @@ use Rattle.translate.proofs.read_halfwords.Statement.{statement}
 use Rattle.translate.proofs.read_halfwords.Tie as tie
 
 abbrev Inv-loop : tie.InvT-loop
-Inv-loop code halfwords₀ n i₀ halfwords i = (i ≤ n) × (n ≡ length code / 2) × (length halfwords ≡ length halfwords₀) × (take i halfwords ≡ take i (halfwordsOf code))
+Inv-loop code halfwords₀ n i₀ halfwords i =
+    (i ≤ n) × (n ≡ length code / 2) × (length halfwords ≡ length halfwords₀) × (take i halfwords ≡ take i (halfwordsOf code))
 
 abbrev μ-loop : tie.MeasureT-loop
 μ-loop code halfwords₀ n i₀ halfwords i = n - i

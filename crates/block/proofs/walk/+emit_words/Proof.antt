@@ -8,12 +8,12 @@ use borrow.Fn.PlainCycle.{Measures, is, falls, and}
 use Rattle.agreement.specs.Translation.Kind.{kind}
 use Rattle.emitter.proofs.Laws.{none}
 use Rattle.block.proofs.Stepping.{at-none, at-missing, at-half, at-word, behind, straight-short}
-use Rattle.block.proofs.Written.{named, going}
+use Rattle.block.proofs.Written.{named, going, stopping}
 use Rattle.block.proofs.walk.emit_words.Reads as emit-words
 use Rattle.block.proofs.walk.emit_words.Kinds as emit-words-kinds
 use Rattle.block.proofs.walk.+emit_words.Lts-emit_words as emit-words-lts
 use Rattle.block.proofs.fetch.fetch.Reads as fetch-reads
-use Rattle.block.proofs.walk.end_at.Reads as end-at-reads
+use Rattle.block.proofs.walk.refused.Reads as refused-reads
 use Rattle.std.proofs.num.wrapping_add_u64.Reads as wrapping-add-u64-reads
 use Rattle.words.proofs.emit_native_instr_x64.Reads as emit-native-instr-x64-reads
 use Rattle.block.proofs.walk.+emit_words.{statement}
@@ -38,13 +38,13 @@ pub +emit-words-spec : {M : Type 1} → statement M
   wrapping-add-u64-reads.Learnt,
   emit-words-below t,
   emit-words.Post,
-  end-at-reads.Asked,
-  end-at-reads.Learnt,
+  refused-reads.Asked,
+  refused-reads.Learnt,
 )
     (emit-words-at t)
     emit-words.Post
-    (λ c.
-    (named (at-none _ _ _ (c .if1 .taken)) (record { ends = refl; counts = omega arith; wrote = none }), search needs))
+    -- no step is left
+    (λ c. (named (at-none _ _ _ (c .if1 .taken)) (record { ends = refl; counts = omega arith; wrote = none }), search needs))
     (λ c κs. search needs)
     (λ c. search needs)
     (λ c. search needs)
@@ -55,52 +55,70 @@ pub +emit-words-spec : {M : Type 1} → statement M
     (λ c. search needs)
     (λ c. search needs)
     (λ c. search needs)
+    -- the steps left fall, and a word that goes on leaves room for the rest
     (λ c κs.
-    let a = c .before .before .before .before .before .before .before .before .before .before .before .before .before .before .before .before .args in
     let w = c .before .before .before .before .before .before .before .before .before .before .fetched2 .given .0 .0 in
     let E = c .before .before .before .before .before .before .before .emit-native-instr-x64 .ensures in
-    let short = straight-short (kind w) (a .pc) w (sym (E .flows) ∙ c .before .before .enum-told2 .given .1) in
+    let short = straight-short (kind w) _ w (sym (E .flows) ∙ c .before .before .enum-told2 .given .1) in
     omega (arith, short, E .wrote .place, E .wrote .size))
     (λ c. search needs)
     (λ c. search needs)
     (λ c. search needs)
     (λ c κs. search needs)
-    (λ c. (
-      named (at-missing _ _ _ (c .before .before .before .if1 .left) (sym (c .enum-told .given .1) ∙ c .before .before .fetch .ensures))
+    -- a halfword is missing
+    (λ c.
+    let fetching = c .before .before in (
+      named (at-missing _ _ _ (fetching .before .if1 .left) (sym (c .enum-told .given .1) ∙ fetching .fetch .ensures))
           (record { ends = refl; counts = omega arith; wrote = none }),
       search needs,
     ))
-    (λ c. (
-      named (at-half _ _ _ (c .before .before .before .before .if1 .left) (sym (c .before .fetched .given .1) ∙ c .before .before .before .fetch .ensures))
+    -- a compressed halfword
+    (λ c.
+    let fetching = c .before .before .before in (
+      named (at-half _ _ _ (fetching .before .if1 .left) (sym (c .before .fetched .given .1) ∙ fetching .fetch .ensures))
           (record { ends = refl; counts = omega arith; wrote = none }),
       search needs,
     ))
     (λ c. search needs)
+    -- a word that goes on
     (λ c.
-    let a = c .before .before .before .before .before .before .before .before .before .before .before .before .before .before .before .before .before .before .before .args in
-    let E = c .before .before .before .before .before .before .before .before .before .before .emit-native-instr-x64 .ensures in (
+    let rest = c .before .before in
+    let adding = rest .before .before in
+    let told = adding .before in
+    let emitting = told .before .before .before .before .before in
+    let found = emitting .before .before .before in
+    let fetching = found .before .before in
+    let a = fetching .before .before .before .before .args in
+    let E = emitting .emit-native-instr-x64 .ensures in (
       named
-          (at-word _ _ _ (c .before .before .before .before .before .before .before .before .before .before .before .before .before .before .before .before .if1 .left) (sym (c .before .before .before .before .before .before .before .before .before .before .before .before .before .fetched2 .given .1) ∙ c .before .before .before .before .before .before .before .before .before .before .before .before .before .before .before .fetch .ensures)
-          (sym (E .flows) ∙ c .before .before .before .before .before .enum-told2 .given .1))
-          (going E
-          (named (behind _ (a .pc) _ (a .k) _ (c .before .before .before .before .wrapping-add-u64 .ensures)) (c .before .before .emit-words .ensures .0))),
-      c .before .before .emit-words .ensures .1,
+          (at-word _ _ _ (fetching .before .if1 .left) (sym (found .fetched2 .given .1) ∙ fetching .fetch .ensures)
+          (sym (E .flows) ∙ told .enum-told2 .given .1))
+          (going E (named (behind _ (a .pc) _ (a .k) _ (adding .wrapping-add-u64 .ensures)) (rest .emit-words .ensures .0))),
+      rest .emit-words .ensures .1,
     ))
     (λ c. search needs)
+    -- a word that ends the block
     (λ c.
-    let E = c .before .before .before .before .before .emit-native-instr-x64 .ensures in (
+    let emitting = c .before .before .before .before .before in
+    let found = emitting .before .before .before in
+    let fetching = found .before .before in
+    let E = emitting .emit-native-instr-x64 .ensures in (
       named
-          (at-word _ _ _ (c .before .before .before .before .before .before .before .before .before .before .before .if1 .left) (sym (c .before .before .before .before .before .before .before .before .fetched2 .given .1) ∙ c .before .before .before .before .before .before .before .before .before .before .fetch .ensures)
+          (at-word _ _ _ (fetching .before .if1 .left) (sym (found .fetched2 .given .1) ∙ fetching .fetch .ensures)
           (sym (E .flows) ∙ c .enum-told3 .given .1))
           (record { ends = refl; counts = refl; wrote = E .wrote }),
       search needs,
     ))
     (λ c. search needs)
+    -- a refused word
     (λ c.
-    let E = c .before .before .before .before .before .before .emit-native-instr-x64 .ensures in (
+    let emitting = c .before .before .before .before .before .before in
+    let found = emitting .before .before .before in
+    let fetching = found .before .before in
+    let E = emitting .emit-native-instr-x64 .ensures in (
       named
-          (at-word _ _ _ (c .before .before .before .before .before .before .before .before .before .before .before .before .if1 .left) (sym (c .before .before .before .before .before .before .before .before .before .fetched2 .given .1) ∙ c .before .before .before .before .before .before .before .before .before .before .before .fetch .ensures)
+          (at-word _ _ _ (fetching .before .if1 .left) (sym (found .fetched2 .given .1) ∙ fetching .fetch .ensures)
           (sym (E .flows) ∙ c .before .enum-told4 .given .1))
-          (record { ends = c .end-at .ensures; counts = omega arith; wrote = E .wrote }),
+          (stopping E (c .refused .ensures)),
       search needs,
     ))
