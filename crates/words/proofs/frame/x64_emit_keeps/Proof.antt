@@ -1,0 +1,27 @@
+use borrow.Author.Needs.{needs}
+use Rattle.emitter.proofs.Laws.{_then_}
+use Rattle.words.proofs.frame.x64_emit_keeps.Statement.{statement}
+use Rattle.words.proofs.frame.x64_emit_keeps.Tie as tie
+
+returns : tie.Need-returns
+returns c =
+    c .before .before .before .before .before .before .before .before .before .before .before .before .before .before .before
+    .before .before .before .before .before .before .before .mov-r64-r64 .ensures then c .before .before .before .before .before
+    .before .before .before .before .before .before .before .before .before .before .before .before .before .mov-r64-r642 .ensures
+    then c .before .before .before .before .before .before .before .before .before .before .before .before .before .before
+    .mov-r64-r643 .ensures then c .before .before .before .before .before .before .before .before .before .before .mov-r64-r644
+    .ensures then c .before .before .before .before .before .before .mov-r64-r645 .ensures then c .before .before .mov-r64-r646
+    .ensures
+
+pub x64-emit-keeps-spec : {M : Type 1} → statement M
+x64-emit-keeps-spec =
+    tie.close
+    (tie.spec
+    (λ c κs. search needs)
+    (λ c κs. search needs)
+    (λ c κs. search needs)
+    (λ c κs. search needs)
+    (λ c κs. search needs)
+    (λ c κs. search needs)
+    (λ c. search needs)
+    returns)

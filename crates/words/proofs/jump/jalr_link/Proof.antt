@@ -1,0 +1,23 @@
+use borrow.Author.Needs.{needs}
+use borrow.Author.Tests.{eq-eqb, ne-eqb}
+use Rattle.emitter.proofs.Laws.{writes, none}
+use Rattle.words.proofs.jump.jalr_link.Statement.{statement}
+use Rattle.words.proofs.jump.jalr_link.Tie as tie
+
+returns : tie.Need-returns
+returns c = (rw (eq-eqb _ _ (c .if1 .taken)) none, search needs)
+
+returns-2 : tie.Need-returns-2
+returns-2 c =
+    (rw (ne-eqb _ _ (c .before .before .before .before .before .before .before .before .if1 .left)) (search writes), search needs)
+
+pub jalr-link-spec : {M : Type 1} → statement M
+jalr-link-spec =
+    tie.close
+    (tie.spec
+    returns
+    (λ c κs. search needs)
+    (λ c. search needs)
+    (λ c κs. search needs)
+    (λ c. search needs)
+    returns-2)
