@@ -1,6 +1,10 @@
 // The arms OPCODE_JAL, OPCODE_JALR and OPCODE_BRANCH: words that end a block, with the next pc in RAX.
 use crate::Emitted;
-use crate::X64EmitFlow;
+use crate::ends;
+use crate::refused;
+use crate::slots::x64_emit_const;
+use crate::slots::x64_emit_load_pair;
+use crate::slots::x64_emit_load_reg;
 use decode::Decoded32;
 use decode::isa;
 use emitter::X64Cc;
@@ -11,14 +15,14 @@ ghost use Rattle.agreement.specs.Translation.Kind.{kindBranch};
 ghost use Rattle.agreement.specs.Translation.Emit.{codeJal, codeJalr, compare};
 ghost use Rattle.emitter.specs.Written.{Wrote, Room};
 ghost use Rattle.emitter.specs.Forms.{ccOf};
-ghost use Rattle.words.specs.Word.{Emits, behind, select, branchBody, jalrTarget, jalrLink};
+ghost use Rattle.words.specs.Word.{Emits, Small, select, branchBody, branchWord, jalrTarget, jalrLink};
 
 // JAL: the link to rd, the target in RAX.
 pub fn jal(em: X64Emitter, out: &mut [u8], rd: u8, link: u64, target: u64) -> X64Emitter
     requires { ⌜ (rd < 32) × Room (now out) (em .at) 27 ⌝ }
     ensures { λ r. ⌜ Wrote (now (out .entry)) (em .at) (bytes (codeJal rd link target)) (now (out .exit)) (r .at) ⌝ }
 {
-    let a = crate::slots::x64_emit_const(em, out, rd, link);
+    let a = x64_emit_const(em, out, rd, link);
     a.mov_r64_imm64(out, X64Emitter::RAX, target)
 }
 
@@ -26,7 +30,7 @@ fn jalr_target(em: X64Emitter, out: &mut [u8], rs1: u8, imm: u32) -> X64Emitter
     requires { ⌜ (rs1 < 32) × Room (now out) (em .at) 21 ⌝ }
     ensures { λ r. ⌜ Wrote (now (out .entry)) (em .at) (bytes (jalrTarget rs1 imm)) (now (out .exit)) (r .at) ⌝ }
 {
-    let a = crate::slots::x64_emit_load_reg(em, out, X64Emitter::R10, rs1);
+    let a = x64_emit_load_reg(em, out, X64Emitter::R10, rs1);
     let b = a.add_r64_imm32(out, X64Emitter::R10, imm);
     b.and_r64_imm32(out, X64Emitter::R10, 0xFFFF_FFFE)
 }
@@ -68,52 +72,13 @@ fn branch_on_flags(em: X64Emitter, out: &mut [u8], funct3: u8, next: u64, target
     ensures { λ r. ⌜ Emits (now (out .entry)) (em .at) (branchBody (kindBranch funct3) next target) (now (out .exit)) r ⌝ }
 {
     match funct3 {
-        isa::F3_BEQ => {
-            let a = branch_select(em, out, next, target, X64Cc::E);
-            Emitted {
-                flow: X64EmitFlow::Terminate,
-                em: a,
-            }
-        }
-        isa::F3_BNE => {
-            let a = branch_select(em, out, next, target, X64Cc::NE);
-            Emitted {
-                flow: X64EmitFlow::Terminate,
-                em: a,
-            }
-        }
-        isa::F3_BLT => {
-            let a = branch_select(em, out, next, target, X64Cc::L);
-            Emitted {
-                flow: X64EmitFlow::Terminate,
-                em: a,
-            }
-        }
-        isa::F3_BGE => {
-            let a = branch_select(em, out, next, target, X64Cc::GE);
-            Emitted {
-                flow: X64EmitFlow::Terminate,
-                em: a,
-            }
-        }
-        isa::F3_BLTU => {
-            let a = branch_select(em, out, next, target, X64Cc::B);
-            Emitted {
-                flow: X64EmitFlow::Terminate,
-                em: a,
-            }
-        }
-        isa::F3_BGEU => {
-            let a = branch_select(em, out, next, target, X64Cc::AE);
-            Emitted {
-                flow: X64EmitFlow::Terminate,
-                em: a,
-            }
-        }
-        _ => Emitted {
-            flow: X64EmitFlow::Refused,
-            em,
-        },
+        isa::F3_BEQ => ends(branch_select(em, out, next, target, X64Cc::E)),
+        isa::F3_BNE => ends(branch_select(em, out, next, target, X64Cc::NE)),
+        isa::F3_BLT => ends(branch_select(em, out, next, target, X64Cc::L)),
+        isa::F3_BGE => ends(branch_select(em, out, next, target, X64Cc::GE)),
+        isa::F3_BLTU => ends(branch_select(em, out, next, target, X64Cc::B)),
+        isa::F3_BGEU => ends(branch_select(em, out, next, target, X64Cc::AE)),
+        _ => refused(em),
     }
 }
 
@@ -121,14 +86,14 @@ fn branch_compare(em: X64Emitter, out: &mut [u8], rs1: u8, rs2: u8) -> X64Emitte
     requires { ⌜ (rs1 < 32) × (rs2 < 32) × Room (now out) (em .at) 17 ⌝ }
     ensures { λ r. ⌜ Wrote (now (out .entry)) (em .at) (bytes (compare rs1 rs2)) (now (out .exit)) (r .at) ⌝ }
 {
-    let a = crate::slots::x64_emit_load_pair(em, out, rs1, rs2);
+    let a = x64_emit_load_pair(em, out, rs1, rs2);
     a.cmp_r64_r64(out, X64Emitter::R10, X64Emitter::R11)
 }
 
 // BRANCH: a reserved funct3 is refused behind the comparison.
 pub fn branch_word(em: X64Emitter, out: &mut [u8], d: Decoded32, next: u64, target: u64) -> Emitted
-    requires { ⌜ (d .rs1 < 32) × (d .rs2 < 32) × Room (now out) (em .at) 44 ⌝ }
-    ensures { λ r. ⌜ Emits (now (out .entry)) (em .at) (behind (compare (d .rs1) (d .rs2)) (branchBody (kindBranch (d .funct3)) next target)) (now (out .exit)) r ⌝ }
+    requires { ⌜ Small d × Room (now out) (em .at) 44 ⌝ }
+    ensures { λ r. ⌜ Emits (now (out .entry)) (em .at) (branchWord d next target) (now (out .exit)) r ⌝ }
 {
     let a = branch_compare(em, out, d.rs1, d.rs2);
     branch_on_flags(a, out, d.funct3, next, target)

@@ -10,13 +10,17 @@ mod slots;
 pub use crate::frame::x64_emit_epilogue;
 pub use crate::frame::x64_emit_prologue;
 pub use crate::helper::emit_native_term_helper_x64;
+use crate::slots::x64_emit_const;
 use decode::Decoded32;
 use decode::isa;
 use emitter::X64Emitter;
 ghost use mathlib.Core.Path.{_≡_};
+ghost use Prim.Native.Nat.{_%_, _^_};
+ghost use Rattle.agreement.specs.Riscv.Immediates.{immI};
 ghost use Rattle.agreement.specs.Translation.Kind.{kind, kindFence};
 ghost use Rattle.emitter.specs.Written.{Room};
-ghost use Rattle.words.specs.Word.{Emits, wordAs, isAccess, fenceWord, Small, wordBy};
+ghost use Rattle.words.specs.declared.X64EmitFlow.the-variants.{Continue, Terminate, Refused};
+ghost use Rattle.words.specs.Word.{Answers, Emits, wordAs, isAccess, fenceWord, Small, wordBy};
 
 pub enum X64EmitFlow {
     Continue,
@@ -30,23 +34,51 @@ pub struct Emitted {
     pub em: X64Emitter,
 }
 
+// The word is written, and the block goes on behind it.
+fn goes_on(em: X64Emitter) -> Emitted
+    ensures { λ r. ⌜ Answers Continue em r ⌝ }
+{
+    Emitted {
+        flow: X64EmitFlow::Continue,
+        em,
+    }
+}
+
+// The word is written, and ends the block.
+fn ends(em: X64Emitter) -> Emitted
+    ensures { λ r. ⌜ Answers Terminate em r ⌝ }
+{
+    Emitted {
+        flow: X64EmitFlow::Terminate,
+        em,
+    }
+}
+
+// The word is not taken.
+fn refused(em: X64Emitter) -> Emitted
+    ensures { λ r. ⌜ Answers Refused em r ⌝ }
+{
+    Emitted {
+        flow: X64EmitFlow::Refused,
+        em,
+    }
+}
+
+// OP-IMM's and JALR's immediate, for an instruction that sign-extends 32 bits.
+fn imm32(instr: u32) -> u32
+    ensures { λ r. ⌜ r ≡ immI instr % 2 ^ 32 ⌝ }
+{
+    (decode::imm_i(instr) % 0x1_0000_0000) as u32
+}
+
 // MISC-MEM: FENCE and FENCE.I do nothing.
 fn fence_word(em: X64Emitter, out: &mut [u8], funct3: u8) -> Emitted
     ensures { λ r. ⌜ Emits (now (out .entry)) (em .at) (fenceWord (kindFence funct3)) (now (out .exit)) r ⌝ }
 {
     match funct3 {
-        isa::F3_FENCE => Emitted {
-            flow: X64EmitFlow::Continue,
-            em,
-        },
-        isa::F3_FENCE_I => Emitted {
-            flow: X64EmitFlow::Continue,
-            em,
-        },
-        _ => Emitted {
-            flow: X64EmitFlow::Refused,
-            em,
-        },
+        isa::F3_FENCE => goes_on(em),
+        isa::F3_FENCE_I => goes_on(em),
+        _ => refused(em),
     }
 }
 
@@ -57,60 +89,31 @@ fn emit_by_opcode(em: X64Emitter, out: &mut [u8], pc: u64, instr: u32, d: Decode
 {
     let opcode = d.opcode;
     match opcode {
-        isa::OPCODE_LUI => {
-            let value = decode::imm_u(instr);
-            let a = slots::x64_emit_const(em, out, d.rd, value);
-            Emitted {
-                flow: X64EmitFlow::Continue,
-                em: a,
-            }
-        }
+        isa::OPCODE_LUI => goes_on(x64_emit_const(em, out, d.rd, decode::imm_u(instr))),
         isa::OPCODE_AUIPC => {
             let value = std::num::wrapping_add_u64(pc, decode::imm_u(instr));
-            let a = slots::x64_emit_const(em, out, d.rd, value);
-            Emitted {
-                flow: X64EmitFlow::Continue,
-                em: a,
-            }
+            goes_on(x64_emit_const(em, out, d.rd, value))
         }
         isa::OPCODE_JAL => {
             let link = std::num::wrapping_add_u64(pc, 4);
             let target = std::num::wrapping_add_u64(pc, decode::imm_j(instr));
-            let a = jump::jal(em, out, d.rd, link, target);
-            Emitted {
-                flow: X64EmitFlow::Terminate,
-                em: a,
-            }
+            ends(jump::jal(em, out, d.rd, link, target))
         }
         isa::OPCODE_JALR => {
             let link = std::num::wrapping_add_u64(pc, 4);
-            let imm = decode::imm_i(instr);
-            let a = jump::jalr(em, out, d.rd, d.rs1, (imm % 0x1_0000_0000) as u32, link);
-            Emitted {
-                flow: X64EmitFlow::Terminate,
-                em: a,
-            }
+            ends(jump::jalr(em, out, d.rd, d.rs1, imm32(instr), link))
         }
         isa::OPCODE_BRANCH => {
             let next = std::num::wrapping_add_u64(pc, 4);
             let target = std::num::wrapping_add_u64(pc, decode::imm_b(instr));
             jump::branch_word(em, out, d, next, target)
         }
-        isa::OPCODE_OP_IMM => {
-            let imm = decode::imm_i(instr);
-            op_imm::op_imm_word(em, out, d, (imm % 0x1_0000_0000) as u32)
-        }
-        isa::OPCODE_OP_IMM_32 => {
-            let imm = decode::imm_i(instr);
-            op_imm::op_imm_32_word(em, out, d, (imm % 0x1_0000_0000) as u32)
-        }
+        isa::OPCODE_OP_IMM => op_imm::op_imm_word(em, out, d, imm32(instr)),
+        isa::OPCODE_OP_IMM_32 => op_imm::op_imm_32_word(em, out, d, imm32(instr)),
         isa::OPCODE_OP => op::op_word(em, out, d),
         isa::OPCODE_OP_32 => op::op_32_word(em, out, d),
         isa::OPCODE_MISC_MEM => fence_word(em, out, d.funct3),
-        _ => Emitted {
-            flow: X64EmitFlow::Refused,
-            em,
-        },
+        _ => refused(em),
     }
 }
 

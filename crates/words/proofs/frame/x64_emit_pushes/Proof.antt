@@ -5,12 +5,14 @@ use Rattle.words.proofs.frame.x64_emit_pushes.Tie as tie
 
 returns : tie.Need-returns
 returns c =
-    c .before .before .before .before .before .before .before .before .before .before .before .before .before .before .before
-    .before .before .before .before .before .before .before .push-r64 .ensures then c .before .before .before .before .before
-    .before .before .before .before .before .before .before .before .before .before .before .before .before .push-r642 .ensures then
-    c .before .before .before .before .before .before .before .before .before .before .before .before .before .before .push-r643
-    .ensures then c .before .before .before .before .before .before .before .before .before .before .push-r644 .ensures then c
-    .before .before .before .before .before .before .push-r645 .ensures then c .before .before .push-r646 .ensures
+    let sixth = c .before .before in
+    let fifth = sixth .before .before .before .before in
+    let fourth = fifth .before .before .before .before in
+    let third = fourth .before .before .before .before in
+    let second = third .before .before .before .before in
+    let first = second .before .before .before .before in
+    first .push-r64 .ensures then second .push-r642 .ensures then third .push-r643 .ensures
+    then fourth .push-r644 .ensures then fifth .push-r645 .ensures then sixth .push-r646 .ensures
 
 pub x64-emit-pushes-spec : {M : Type 1} → statement M
 x64-emit-pushes-spec =

@@ -8,10 +8,13 @@ use Rattle.words.proofs.helper.emit_native_term_helper_x64.Tie as tie
 
 returns : tie.Need-returns
 returns c =
-    let a = c .before .before .before .before .before .before .before .before .before .before .before .before .before .args in
+    let closes = c .before .before in
+    let counts = closes .before .before .before .before in
+    let calls = counts .before .before .before .before in
+    let a = calls .before .before .before .args in
     joined (passes (a .instr) (a .pc) (a .helper) ++ callRax ∷ []) (addCount (a .prefix-count) ++ (closing ++ ret ∷ []))
-    (c .before .before .before .before .before .before .before .before .before .before .helper-call .ensures)
-    (joined (addCount (a .prefix-count)) (closing ++ ret ∷ []) (c .before .before .before .before .before .before .add-count .ensures .0) (c .before .before .x64-emit-epilogue .ensures))
+    (calls .helper-call .ensures)
+    (joined (addCount (a .prefix-count)) (closing ++ ret ∷ []) (counts .add-count .ensures .0) (closes .x64-emit-epilogue .ensures))
 
 pub emit-native-term-helper-x64-spec : {M : Type 1} → statement M
 emit-native-term-helper-x64-spec =

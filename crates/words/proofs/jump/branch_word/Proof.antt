@@ -6,15 +6,10 @@ use Rattle.words.proofs.jump.branch_word.Tie as tie
 
 returns : tie.Need-returns
 returns c =
-    let d = c .before .before .before .before .before .before .before .before .before .args .d in
-    preceded (compare (d .rs1) (d .rs2)) (c .before .before .before .before .before .before .branch-compare .ensures)
-    (c .before .before .branch-on-flags .ensures)
+    let selects = c .before .before in
+    let compares = selects .before .before .before .before in
+    let d = compares .before .before .before .args .d in
+    preceded (compare (d .rs1) (d .rs2)) (compares .branch-compare .ensures) (selects .branch-on-flags .ensures)
 
 pub branch-word-spec : {M : Type 1} → statement M
-branch-word-spec =
-    tie.close
-    (tie.spec
-    (λ c κs. search needs)
-    (λ c κs. search needs)
-    (λ c. search needs)
-    returns)
+branch-word-spec = tie.close (tie.spec (λ c κs. search needs) (λ c κs. search needs) (λ c. search needs) returns)

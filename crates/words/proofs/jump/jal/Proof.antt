@@ -9,21 +9,17 @@ use Rattle.words.proofs.jump.jal.Statement.{statement}
 use Rattle.words.proofs.jump.jal.Tie as tie
 
 mov-r64-imm64-requires : tie.Need-mov-r64-imm64-requires
-mov-r64-imm64-requires c κs = (
-  omega arith,
-  record {
-    fits = omega (
-      arith,
-      len-const (c .before .before .before .before .before .before .args .rd) (c .before .before .before .before .before .before .args .link),
-    );
-  },
-)
+mov-r64-imm64-requires c κs =
+    let a = c .before .before .before .before .before .before .args in
+    (omega arith, record { fits = omega (arith, len-const (a .rd) (a .link)) })
 
 returns : tie.Need-returns
 returns c =
-    let a = c .before .before .before .before .before .before .before .before .before .args in
+    let ends = c .before .before in
+    let links = ends .before .before .before .before in
+    let a = links .before .before .before .args in
     joined (codeConst (a .rd) (a .link)) (movImm64 RAX (a .target) ∷ [])
-    (c .before .before .before .before .before .before .x64-emit-const .ensures) (c .before .before .mov-r64-imm64 .ensures)
+    (links .x64-emit-const .ensures) (ends .mov-r64-imm64 .ensures)
 
 pub jal-spec : {M : Type 1} → statement M
 jal-spec =

@@ -8,10 +8,13 @@ use Rattle.words.proofs.jump.jalr.Tie as tie
 
 returns : tie.Need-returns
 returns c =
-    let a = c .before .before .before .before .before .before .before .before .before .before .before .before .before .args in
+    let ends = c .before .before in
+    let links = ends .before .before .before .before in
+    let aims = links .before .before .before .before in
+    let a = aims .before .before .before .args in
     joined (jalrTarget (a .rs1) (a .imm)) (jalrLink (a .rd) (a .link) ++ mov RAX R10 ∷ [])
-    (c .before .before .before .before .before .before .before .before .before .before .jalr-target .ensures)
-    (joined (jalrLink (a .rd) (a .link)) (mov RAX R10 ∷ []) (c .before .before .before .before .before .before .jalr-link .ensures .0) (c .before .before .mov-r64-r64 .ensures))
+    (aims .jalr-target .ensures)
+    (joined (jalrLink (a .rd) (a .link)) (mov RAX R10 ∷ []) (links .jalr-link .ensures .0) (ends .mov-r64-r64 .ensures))
 
 pub jalr-spec : {M : Type 1} → statement M
 jalr-spec =

@@ -1,15 +1,17 @@
+use native.Mathlib.Omega.{arith}
 use borrow.Author.Needs.{needs}
-use borrow.Author.Tests.{eq-eqb, ne-eqb}
-use Rattle.emitter.proofs.Laws.{writes, none}
+use Rattle.emitter.proofs.Laws.{writes}
+use Rattle.words.proofs.Joined.{at-zero, at-other}
 use Rattle.words.proofs.jump.jalr_link.Statement.{statement}
 use Rattle.words.proofs.jump.jalr_link.Tie as tie
 
 returns : tie.Need-returns
-returns c = (rw (eq-eqb _ _ (c .if1 .taken)) none, search needs)
+returns c = (at-zero (c .before .before .args .rd) _ (omega arith), search needs)
 
 returns-2 : tie.Need-returns-2
 returns-2 c =
-    (rw (ne-eqb _ _ (c .before .before .before .before .before .before .before .before .if1 .left)) (search writes), search needs)
+    let start = c .before .before .before .before .before .before .before .before .before .before in
+    (at-other (start .args .rd) _ (omega arith) (search writes), search needs)
 
 pub jalr-link-spec : {M : Type 1} → statement M
 jalr-link-spec =

@@ -1,20 +1,19 @@
 use borrow.Author.Needs.{needs}
 use borrow.Author.Tests.{ne-eqb}
 use Rattle.agreement.specs.Translation.Kind.{kindOp, match}
-use Rattle.emitter.proofs.Laws.{writes}
 use Rattle.words.proofs.Choices.{cond-same}
+use Rattle.words.proofs.Joined.{words}
 use Rattle.words.proofs.op.op_muldiv.Statement.{statement}
 use Rattle.words.proofs.op.op_muldiv.Tie as tie
 
-returns : tie.Need-returns
-unfolding kindOp match
-returns c = rw (c .before .before .before .before .match .keys1) (search (writes, needs))
-
-returns-2 : tie.Need-returns-2
-unfolding kindOp match
-returns-2 c =
-    let r = c .match .rest in
-    simp (ne-eqb _ _ (r .1), cond-same) (search (writes, needs))
-
 pub op-muldiv-spec : {M : Type 1} → statement M
-op-muldiv-spec = tie.close (tie.spec (λ c κs. search needs) (λ c. search needs) returns returns-2)
+unfolding kindOp match
+op-muldiv-spec =
+    tie.close
+    (tie.spec
+    (λ c κs. search needs)
+    (λ c κs. search needs)
+    (λ c κs. search needs)
+    (λ c. search needs)
+    (λ c. rw (c .before .before .before .before .before .match .keys1) (search (words, needs)))
+    (λ c. simp (ne-eqb _ _ (c .before .match .rest .1), cond-same) (search (words, needs))))

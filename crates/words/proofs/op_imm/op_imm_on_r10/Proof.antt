@@ -1,83 +1,24 @@
 use borrow.Author.Needs.{needs}
-use borrow.Author.Tests.{eq-eqb, ne-eqb}
+use borrow.Author.Tests.{ne-eqb}
 use Rattle.agreement.specs.Translation.Kind.{kindOpImm, match}
-use Rattle.emitter.proofs.Laws.{writes}
-use Rattle.words.proofs.Choices.{cond-same}
+use Rattle.words.proofs.Joined.{words}
+use Rattle.words.proofs.Matches.{missed}
 use Rattle.words.proofs.op_imm.op_imm_on_r10.Statement.{statement}
 use Rattle.words.proofs.op_imm.op_imm_on_r10.Tie as tie
 
-returns : tie.Need-returns
-unfolding kindOpImm match
-returns c = rw (c .before .match .keys7, ne-eqb _ _ (c .if1 .taken)) (search (writes, needs))
-
-returns-2 : tie.Need-returns-2
-unfolding kindOpImm match
-returns-2 c =
-    rw (c .before .before .before .before .before .match .keys8, c .before .before .before .before .if2 .taken)
-    (search (writes, needs))
-
-returns-3 : tie.Need-returns-3
-unfolding kindOpImm match
-returns-3 c =
-    rw (c .before .before .before .before .before .before .match .keys8, c .before .before .before .before .if3 .taken)
-    (search (writes, needs))
-
-returns-4 : tie.Need-returns-4
-unfolding kindOpImm match
-returns-4 c = rw (c .before .before .before .before .match .keys1) (search (writes, needs))
-
-returns-5 : tie.Need-returns-5
-unfolding kindOpImm match
-returns-5 c = rw (c .before .before .before .before .before .before .before .before .match .keys2) (search (writes, needs))
-
-returns-6 : tie.Need-returns-6
-unfolding kindOpImm match
-returns-6 c = rw (c .before .before .before .before .before .before .before .before .match .keys3) (search (writes, needs))
-
-returns-7 : tie.Need-returns-7
-unfolding kindOpImm match
-returns-7 c = rw (c .before .before .before .before .match .keys4) (search (writes, needs))
-
-returns-8 : tie.Need-returns-8
-unfolding kindOpImm match
-returns-8 c = rw (c .before .before .before .before .match .keys5) (search (writes, needs))
-
-returns-9 : tie.Need-returns-9
-unfolding kindOpImm match
-returns-9 c = rw (c .before .before .before .before .match .keys6) (search (writes, needs))
-
-returns-10 : tie.Need-returns-10
-unfolding kindOpImm match
-returns-10 c =
-    rw (c .before .before .before .before .before .match .keys7, c .before .before .before .before .if1 .left)
-    (search (writes, needs))
-
-returns-11 : tie.Need-returns-11
-unfolding kindOpImm match
-returns-11 c =
-    rw (c .before .before .match .keys8, ne-eqb _ _ (c .before .if2 .left), ne-eqb _ _ (c .if3 .left)) (search (writes, needs))
-
 returns-12 : tie.Need-returns-12
-unfolding kindOpImm match
+unfolding kindOpImm
 returns-12 c =
-    let r = c .match .rest in
-    simp (
-      ne-eqb _ _ (r .1),
-      ne-eqb _ _ (r .0 .1),
-      ne-eqb _ _ (r .0 .0 .1),
-      ne-eqb _ _ (r .0 .0 .0 .1),
-      ne-eqb _ _ (r .0 .0 .0 .0 .1),
-      ne-eqb _ _ (r .0 .0 .0 .0 .0 .1),
-      ne-eqb _ _ (r .0 .0 .0 .0 .0 .0 .1),
-      ne-eqb _ _ (r .0 .0 .0 .0 .0 .0 .0 .1),
-      cond-same,
-    )
-    (search (writes, needs))
+    let r = c .before .match .rest in
+    rw missed (search (words, needs))
 
 pub op-imm-on-r10-spec : {M : Type 1} → statement M
+unfolding kindOpImm match
 op-imm-on-r10-spec =
     tie.close
     (tie.spec
+    (λ c. search needs)
+    (λ c. search needs)
     (λ c κs. search needs)
     (λ c κs. search needs)
     (λ c κs. search needs)
@@ -86,27 +27,46 @@ op-imm-on-r10-spec =
     (λ c κs. search needs)
     (λ c κs. search needs)
     (λ c κs. search needs)
-    returns
+    (λ c κs. search needs)
+    (λ c κs. search needs)
+    (λ c κs. search needs)
+    (λ c κs. search needs)
+    (λ c κs. search needs)
+    (λ c κs. search needs)
+    (λ c κs. search needs)
+    (λ c κs. search needs)
+    (λ c κs. search needs)
+    (λ c κs. search needs)
+    (λ c κs. search needs)
     (λ c κs. search needs)
     (λ c κs. search needs)
     (λ c. search needs)
-    returns-2
-    (λ c κs. search needs)
+    (λ c. rw (c .before .before .before .before .before .match .keys1) (search (words, needs)))
     (λ c. search needs)
-    returns-3
+    (λ c. rw (c .before .before .before .before .before .before .before .before .match .keys2) (search (words, needs)))
     (λ c. search needs)
-    returns-4
+    (λ c. rw (c .before .before .before .before .before .before .before .before .match .keys3) (search (words, needs)))
     (λ c. search needs)
-    returns-5
+    (λ c. rw (c .before .before .before .before .before .match .keys4) (search (words, needs)))
     (λ c. search needs)
-    returns-6
+    (λ c. rw (c .before .before .before .before .before .match .keys5) (search (words, needs)))
     (λ c. search needs)
-    returns-7
+    (λ c. rw (c .before .before .before .before .before .match .keys6) (search (words, needs)))
     (λ c. search needs)
-    returns-8
+    (λ c.
+    let arm = c .before .before .before .before .before in
+    rw (arm .before .match .keys7, arm .match2 .keys1) (search (words, needs)))
+    (λ c. rw (c .before .before .match .keys7, ne-eqb _ _ (c .before .match2 .rest .1)) (search (words, needs)))
     (λ c. search needs)
-    returns-9
+    (λ c.
+    let arm = c .before .before .before .before .before in
+    rw (arm .before .match .keys8, arm .match3 .keys1) (search (words, needs)))
     (λ c. search needs)
-    returns-10
-    returns-11
+    (λ c.
+    let arm = c .before .before .before .before .before in
+    rw (arm .before .match .keys8, arm .match3 .keys2) (search (words, needs)))
+    (λ c.
+    let arm = c .before in
+    let r = arm .match3 .rest in
+    rw (arm .before .match .keys8, ne-eqb _ _ (r .0 .1), ne-eqb _ _ (r .1)) (search (words, needs)))
     returns-12)

@@ -1,19 +1,15 @@
 use borrow.Author.Needs.{needs}
-use mathlib.Core.Path.{refl, sym}
+use mathlib.Core.Path.{refl}
 use Rattle.emitter.proofs.Laws.{none}
+use Rattle.words.proofs.Joined.{answered}
 use Rattle.words.proofs.result.store_rd.Statement.{statement}
 use Rattle.words.proofs.result.store_rd.Tie as tie
 
-returns : tie.Need-returns
-returns c =
-    let h = c .before .before .before .before .before .enum-told .given .1 in
-    (sym h, rw h (c .before .before .x64-emit-store-reg .ensures))
-
-returns-2 : tie.Need-returns-2
-returns-2 c = (refl, rw (c .enum-told2 .given .1) none)
-
-returns-3 : tie.Need-returns-3
-returns-3 c = (refl, rw (c .enum-told3 .given .1) none)
+goes-on : tie.Need-returns
+goes-on c =
+    let stores = c .before .before .before in
+    rw (stores .before .before .before .enum-told .given .1)
+    (answered (c .goes-on .ensures) (stores .x64-emit-store-reg .ensures))
 
 pub store-rd-spec : {M : Type 1} → statement M
 store-rd-spec =
@@ -21,9 +17,10 @@ store-rd-spec =
     (tie.spec
     (λ c. search needs)
     (λ c κs. search needs)
+    (λ c κs. search needs)
     (λ c. search needs)
     (λ c. search needs)
     (λ c. search needs)
-    returns
-    returns-2
-    returns-3)
+    goes-on
+    (λ c. rw (c .enum-told2 .given .1) (record { flows = refl; wrote = none }))
+    (λ c. rw (c .enum-told3 .given .1) (record { flows = refl; wrote = none })))

@@ -1,14 +1,16 @@
+use native.Mathlib.Omega.{arith}
 use borrow.Author.Needs.{needs}
-use borrow.Author.Tests.{eq-eqb, ne-eqb}
-use Rattle.emitter.proofs.Laws.{writes, none}
+use Rattle.emitter.proofs.Laws.{writes}
+use Rattle.words.proofs.Joined.{at-zero, at-other}
 use Rattle.words.proofs.slots.x64_emit_const.Statement.{statement}
 use Rattle.words.proofs.slots.x64_emit_const.Tie as tie
 
 returns : tie.Need-returns
-returns c = rw (eq-eqb _ _ (c .if1 .taken)) none
+returns c = at-zero (c .before .before .args .rd) _ (omega arith)
 
 returns-2 : tie.Need-returns-2
-returns-2 c = rw (ne-eqb _ _ (c .before .before .before .before .before .before .before .before .if1 .left)) (search writes)
+returns-2 c =
+    at-other (c .before .before .before .before .before .before .before .before .before .before .args .rd) _ (omega arith) (search writes)
 
 pub x64-emit-const-spec : {M : Type 1} → statement M
 x64-emit-const-spec =
