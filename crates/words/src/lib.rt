@@ -1,6 +1,6 @@
 // `emit_native_instr_x64` of src/hart/jit_amd64.rs: a word of the run becomes host instructions in a lent output.
-pub mod frame;
-pub mod helper;
+mod frame;
+mod helper;
 mod jump;
 mod op;
 mod op_imm;
