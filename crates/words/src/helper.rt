@@ -18,6 +18,7 @@ fn helper_arguments(em: X64Emitter, out: &mut [u8]) -> X64Emitter
     b.mov_r64_r64(out, X64Emitter::RDX, X64Emitter::R14)
 }
 
+// The instruction, its pc, and the address to be called.
 fn helper_numbers(em: X64Emitter, out: &mut [u8], instr: u64, pc: u64, helper: u64) -> X64Emitter
     requires { ⌜ Room (now out) (em .at) 30 ⌝ }
     ensures { λ r. ⌜ Wrote (now (out .entry)) (em .at) (bytes (guestArguments instr pc helper)) (now (out .exit)) (r .at) ⌝ }
@@ -27,6 +28,7 @@ fn helper_numbers(em: X64Emitter, out: &mut [u8], instr: u64, pc: u64, helper: u
     b.mov_r64_imm64(out, X64Emitter::RAX, helper)
 }
 
+// The arguments, and the call.
 fn helper_call(em: X64Emitter, out: &mut [u8], instr: u64, pc: u64, helper: u64) -> X64Emitter
     requires { ⌜ Room (now out) (em .at) 41 ⌝ }
     ensures { λ r. ⌜ Wrote (now (out .entry)) (em .at) (bytes (passes instr pc helper ++ callRax ∷ [])) (now (out .exit)) (r .at) ⌝ }

@@ -26,6 +26,7 @@ pub fn jal(em: X64Emitter, out: &mut [u8], rd: u8, link: u64, target: u64) -> X6
     a.mov_r64_imm64(out, X64Emitter::RAX, target)
 }
 
+// rs1 and the immediate, without bit 0, in R10.
 fn jalr_target(em: X64Emitter, out: &mut [u8], rs1: u8, imm: u32) -> X64Emitter
     requires { ⌜ (rs1 < 32) × Room (now out) (em .at) 21 ⌝ }
     ensures { λ r. ⌜ Wrote (now (out .entry)) (em .at) (bytes (jalrTarget rs1 imm)) (now (out .exit)) (r .at) ⌝ }
@@ -35,6 +36,7 @@ fn jalr_target(em: X64Emitter, out: &mut [u8], rs1: u8, imm: u32) -> X64Emitter
     b.and_r64_imm32(out, X64Emitter::R10, 0xFFFF_FFFE)
 }
 
+// The link to rd through R11, since R10 holds the target; nothing for x0.
 fn jalr_link(em: X64Emitter, out: &mut [u8], rd: u8, link: u64) -> X64Emitter
     requires { ⌜ (rd < 32) × Room (now out) (em .at) 17 ⌝ }
     ensures { λ r. ⌜ Wrote (now (out .entry)) (em .at) (bytes (jalrLink rd link)) (now (out .exit)) (r .at) × (r .at ≤ em .at + 17) ⌝ }
@@ -56,6 +58,7 @@ pub fn jalr(em: X64Emitter, out: &mut [u8], rd: u8, rs1: u8, imm: u32, link: u64
     b.mov_r64_r64(out, X64Emitter::RAX, X64Emitter::R10)
 }
 
+// The target in RAX where the condition holds, else the next pc.
 fn branch_select(em: X64Emitter, out: &mut [u8], next: u64, target: u64, cc: X64Cc) -> X64Emitter
     requires { ⌜ Room (now out) (em .at) 27 ⌝ }
     ensures { λ r. ⌜ Wrote (now (out .entry)) (em .at) (bytes (select (ccOf cc) next target)) (now (out .exit)) (r .at) ⌝ }
@@ -66,7 +69,7 @@ fn branch_select(em: X64Emitter, out: &mut [u8], next: u64, target: u64, cc: X64
     c.mov_r64_r64(out, X64Emitter::RAX, X64Emitter::R11)
 }
 
-// The next pc or the target in RAX, by the flags of the comparison.
+// By the flags of the comparison. The Rust finds the condition first, and emits behind the match.
 fn branch_on_flags(em: X64Emitter, out: &mut [u8], funct3: u8, next: u64, target: u64) -> Emitted
     requires { ⌜ Room (now out) (em .at) 27 ⌝ }
     ensures { λ r. ⌜ Emits (now (out .entry)) (em .at) (branchBody (kindBranch funct3) next target) (now (out .exit)) r ⌝ }
@@ -82,6 +85,7 @@ fn branch_on_flags(em: X64Emitter, out: &mut [u8], funct3: u8, next: u64, target
     }
 }
 
+// Both source registers, and their comparison.
 fn branch_compare(em: X64Emitter, out: &mut [u8], rs1: u8, rs2: u8) -> X64Emitter
     requires { ⌜ (rs1 < 32) × (rs2 < 32) × Room (now out) (em .at) 17 ⌝ }
     ensures { λ r. ⌜ Wrote (now (out .entry)) (em .at) (bytes (compare rs1 rs2)) (now (out .exit)) (r .at) ⌝ }

@@ -5,9 +5,10 @@ use Rattle.words.proofs.Matches.{missed}
 use Rattle.words.proofs.jump.branch_on_flags.Statement.{statement}
 use Rattle.words.proofs.jump.branch_on_flags.Tie as tie
 
-returns-7 : tie.Need-returns-7
+-- the last arm: funct3 is no arm's pattern
+none : tie.Need-returns-7
 unfolding kindBranch
-returns-7 c =
+none c =
     let r = c .before .match .rest in
     rw missed (search (words, needs))
 
@@ -41,4 +42,4 @@ branch-on-flags-spec =
     (λ c. rw (c .before .before .before .before .before .match .keys5) (search (words, needs)))
     (λ c. search needs)
     (λ c. rw (c .before .before .before .before .before .match .keys6) (search (words, needs)))
-    returns-7)
+    none)

@@ -5,9 +5,10 @@ use Rattle.words.proofs.Matches.{missed}
 use Rattle.words.proofs.op.op_32_base.Statement.{statement}
 use Rattle.words.proofs.op.op_32_base.Tie as tie
 
-returns-4 : tie.Need-returns-4
+-- the last arm: funct3 is no arm's pattern
+none : tie.Need-returns-4
 unfolding kindOp32
-returns-4 c =
+none c =
     let r = c .before .match .rest in
     rw missed (search (words, needs))
 
@@ -35,4 +36,4 @@ op-32-base-spec =
     (λ c.
     rw (c .before .before .before .before .before .before .before .before .before .before .before .before .match .keys3)
     (search (words, needs)))
-    returns-4)
+    none)

@@ -5,9 +5,10 @@ use Rattle.words.proofs.Matches.{missed}
 use Rattle.words.proofs.op.op_base.Statement.{statement}
 use Rattle.words.proofs.op.op_base.Tie as tie
 
-returns-9 : tie.Need-returns-9
+-- the last arm: funct3 is no arm's pattern
+none : tie.Need-returns-9
 unfolding kindOp
-returns-9 c =
+none c =
     let r = c .before .match .rest in
     rw missed (search (words, needs))
 
@@ -51,4 +52,4 @@ op-base-spec =
     (λ c. rw (c .before .before .before .before .before .match .keys7) (search (words, needs)))
     (λ c. search needs)
     (λ c. rw (c .before .before .before .before .before .match .keys8) (search (words, needs)))
-    returns-9)
+    none)

@@ -6,9 +6,10 @@ use Rattle.words.proofs.Matches.{missed}
 use Rattle.words.proofs.op_imm.op_imm_32_on_r10.Statement.{statement}
 use Rattle.words.proofs.op_imm.op_imm_32_on_r10.Tie as tie
 
-returns-7 : tie.Need-returns-7
+-- the last arm: funct3 is no arm's pattern
+none : tie.Need-returns-7
 unfolding kindOpImm32
-returns-7 c =
+none c =
     let r = c .before .match .rest in
     rw missed (search (words, needs))
 
@@ -48,4 +49,4 @@ op-imm-32-on-r10-spec =
     let arm = c .before in
     let r = arm .match3 .rest in
     rw (arm .before .match .keys3, ne-eqb _ _ (r .0 .1), ne-eqb _ _ (r .1)) (search (words, needs)))
-    returns-7)
+    none)

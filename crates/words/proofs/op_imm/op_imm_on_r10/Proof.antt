@@ -6,9 +6,10 @@ use Rattle.words.proofs.Matches.{missed}
 use Rattle.words.proofs.op_imm.op_imm_on_r10.Statement.{statement}
 use Rattle.words.proofs.op_imm.op_imm_on_r10.Tie as tie
 
-returns-12 : tie.Need-returns-12
+-- the last arm: funct3 is no arm's pattern
+none : tie.Need-returns-12
 unfolding kindOpImm
-returns-12 c =
+none c =
     let r = c .before .match .rest in
     rw missed (search (words, needs))
 
@@ -69,4 +70,4 @@ op-imm-on-r10-spec =
     let arm = c .before in
     let r = arm .match3 .rest in
     rw (arm .before .match .keys8, ne-eqb _ _ (r .0 .1), ne-eqb _ _ (r .1)) (search (words, needs)))
-    returns-12)
+    none)
