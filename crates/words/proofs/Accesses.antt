@@ -8,10 +8,11 @@ use borrow.Author.Tests.{ne-eqb, lt-leb}
 use lib.Dec.{eqb, leb}
 use Rattle.agreement.specs.Riscv.Fields.{opcode, funct3}
 use Rattle.agreement.specs.Riscv.Instruction.{Instruction}
-use Rattle.agreement.specs.Translation.Kind.{match, kind, kindOf, kindOp, kindOp32, kindOpImm, kindOpImm32, kindBranch, kindFence, kindLoad, kindStore}
+use Rattle.agreement.specs.Translation.Kind.{match, kind, kindOf, kindLoad, kindStore}
 use Rattle.agreement.specs.Translation.Decode32 as Decode32
 use Rattle.agreement.proofs.Laws.Fields.{opcode-is, funct3-is}
-use Rattle.words.proofs.Matches.{Each, each, EachAt, each-at, decide}
+use Rattle.words.proofs.Matches.{EachAt, each-at, decide}
+use Rattle.words.proofs.Families.{each-op, each-op-32, each-op-imm, each-op-imm-32, each-branch, each-fence}
 use Rattle.words.specs.Word.{isAccess}
 
 -- one number less
@@ -53,67 +54,6 @@ of-store w e = rw (opcode-is w, funct3-is w, e) (store (funct3 w))
 abbrev No : Instruction → Type 0
 No k = false ≡ isAccess k
 
-op-no : (f s : ℕ) → No (kindOp f s)
-unfolding kindOp Each
-op-no f s = each No f _ (
-  each No s _ (refl, (refl, (refl, refl))),
-  (
-    each No s _ (refl, refl),
-    (
-      each No s _ (refl, refl),
-      (
-        each No s _ (refl, refl),
-        (
-          each No s _ (refl, refl),
-          (each No s _ (refl, (refl, refl)), (each No s _ (refl, refl), (each No s _ (refl, refl), refl))),
-        ),
-      ),
-    ),
-  ),
-)
-
-op-32-no : (f s : ℕ) → No (kindOp32 f s)
-unfolding kindOp32 Each
-op-32-no f s = each No f _
-    (each No s _ (refl, (refl, (refl, refl))), (each No s _ (refl, refl), (each No s _ (refl, (refl, refl)), refl)))
-
-op-imm-no : (f t : ℕ) → No (kindOpImm f t)
-unfolding kindOpImm Each
-op-imm-no f t = each No f _ (
-  refl,
-  (
-    refl,
-    (
-      refl,
-      (
-        refl,
-        (
-          refl,
-          (
-            refl,
-            (
-              each No t _ (refl, refl),
-              (each No t _ (refl, (refl, refl)), refl),
-            ),
-          ),
-        ),
-      ),
-    ),
-  ),
-)
-
-op-imm-32-no : (f s : ℕ) → No (kindOpImm32 f s)
-unfolding kindOpImm32 Each
-op-imm-32-no f s = each No f _ (refl, (each No s _ (refl, refl), (each No s _ (refl, (refl, refl)), refl)))
-
-branch-no : (f : ℕ) → No (kindBranch f)
-unfolding kindBranch Each
-branch-no f = each No f _ (refl, (refl, (refl, (refl, (refl, (refl, refl))))))
-
-fence-no : (f : ℕ) → No (kindFence f)
-unfolding kindFence Each
-fence-no f = each No f _ (refl, (refl, refl))
-
 pub of-other : (w : ℕ) → opcode w ≢ 0x03 → opcode w ≢ 0x23 → false ≡ isAccess (kind w)
 unfolding kind kindOf EachAt
 of-other w a b =
@@ -128,17 +68,17 @@ of-other w a b =
           (
             λ e. refl,
             (
-              λ e. branch-no f,
+              λ e. each-branch No (λ c. refl) refl f,
               (
-                λ e. op-imm-no f (Decode32.immHi w),
+                λ e. each-op-imm No (λ o. refl) refl f (Decode32.immHi w),
                 (
-                  λ e. op-imm-32-no f s,
+                  λ e. each-op-imm-32 No (λ o. refl) refl f s,
                   (
-                    λ e. op-no f s,
+                    λ e. each-op No (λ o. refl) refl f s,
                     (
-                      λ e. op-32-no f s,
+                      λ e. each-op-32 No (λ o. refl) refl f s,
                       (
-                        λ e. fence-no f,
+                        λ e. each-fence No refl refl refl f,
                         (
                           λ e. absurd (a (sym (opcode-is w) ∙ e)),
                           (λ e. absurd (b (sym (opcode-is w) ∙ e)), refl),

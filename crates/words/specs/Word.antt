@@ -15,6 +15,7 @@ use Rattle.agreement.specs.Translation.Walk.{End, End.calls}
 use Rattle.agreement.specs.Translation.Kind.{kindOp, kindOp32, kindOpImm, kindOpImm32, kindBranch, kindFence}
 use Rattle.agreement.specs.Riscv.Immediates as Manual
 use Rattle.decode.specs.declared.Decoded32.{Decoded32}
+use Rattle.emitter.specs.declared.X64Emitter.{X64Emitter}
 use Rattle.emitter.specs.Written.{Wrote}
 use Rattle.words.specs.declared.X64EmitFlow.{X64EmitFlow}
 use Rattle.words.specs.declared.X64EmitFlow.the-variants.{Continue, Terminate, Refused}
@@ -67,6 +68,11 @@ isAccess other = false
 abbrev pub refusedEnd : Instruction → ℕ → ℕ → End
 refusedEnd k pc w = cond (isAccess k) (calls forAccess w pc) (End.goesOn pc)
 
+-- the answer of a word: how the block goes on, and the emitter behind what was written
+pub record Answers (f : X64EmitFlow) (em : X64Emitter) (e : Emitted) : Type 0 where
+  pub flows : e .flow ≡ f
+  pub stands : e .em ≡ em
+
 -- the word was written at the emitter's place
 pub record Emits (before : List ℕ) (at : ℕ) (w : Word) (after : List ℕ) (e : Emitted) : Type 0 where
   pub flows : e .flow ≡ w .flow
@@ -108,6 +114,10 @@ storeIf r Continue = storeReg r R10
 storeIf r Terminate = []
 storeIf r Refused = []
 
+-- the store behind a body that answers f; the word answers the same
+abbrev pub stored : ℕ → X64EmitFlow → Word
+stored r f = record { flow = f; code = storeIf r f }
+
 -- loads, a body, and the store behind it
 abbrev pub finished : List Instr → Word → ℕ → Word
 finished loads w r = record { flow = w .flow; code = loads ++ (w .code ++ storeIf r (w .flow)) }
@@ -116,7 +126,31 @@ finished loads w r = record { flow = w .flow; code = loads ++ (w .code ++ storeI
 abbrev pub behind : List Instr → Word → Word
 behind is w = record { flow = w .flow; code = is ++ w .code }
 
--- the part of a branch behind its comparison: the target into RAX where the condition holds, else the next pc
+-- both source registers: what `codeOp` and `compare` begin with
+abbrev pub loadPair : ℕ → ℕ → List Instr
+loadPair r s = loadReg R10 r ∷ loadReg R11 s ∷ []
+
+-- OP and OP-32 by the fields d
+abbrev pub opWord : Decoded32 → Word
+opWord d = finished (loadPair (d .rs1) (d .rs2)) (opBody (kindOp (d .funct3) (d .funct7))) (d .rd)
+
+abbrev pub op32Word : Decoded32 → Word
+op32Word d = finished (loadPair (d .rs1) (d .rs2)) (opBody (kindOp32 (d .funct3) (d .funct7))) (d .rd)
+
+-- OP-IMM and OP-IMM-32 by the fields d and the immediate's 32 bits i
+abbrev pub opImmBodyOf : Decoded32 → ℕ → Word
+opImmBodyOf d i = opImmBody (kindOpImm (d .funct3) (d .imm12 / 64)) i (d .imm12 % 64) (d .imm12 % 32)
+
+abbrev pub opImm32BodyOf : Decoded32 → ℕ → Word
+opImm32BodyOf d i = opImmBody (kindOpImm32 (d .funct3) (d .funct7)) i (d .imm12 % 64) (d .imm12 % 32)
+
+abbrev pub opImmWord : Decoded32 → ℕ → Word
+opImmWord d i = finished (loadReg R10 (d .rs1) ∷ []) (opImmBodyOf d i) (d .rd)
+
+abbrev pub opImm32Word : Decoded32 → ℕ → Word
+opImm32Word d i = finished (loadReg R10 (d .rs1) ∷ []) (opImm32BodyOf d i) (d .rd)
+
+-- the part of `codeBranch` behind `compare`: the target into RAX where the condition holds, else the next pc
 abbrev pub select : Cc → ℕ → ℕ → List Instr
 select c next target = movImm64 R11 next ∷ movImm64 RAX target ∷ cmov c R11 RAX ∷ mov RAX R11 ∷ []
 
@@ -134,10 +168,15 @@ branchBody FENCE next target = refused []
 branchBody FENCE·I next target = refused []
 branchBody other next target = refused []
 
--- JALR: the target in R10, and the link through R11
+-- BRANCH by the fields d
+abbrev pub branchWord : Decoded32 → ℕ → ℕ → Word
+branchWord d next target = behind (compare (d .rs1) (d .rs2)) (branchBody (kindBranch (d .funct3)) next target)
+
+-- the first part of `codeJalr`: the target in R10
 abbrev pub jalrTarget : ℕ → ℕ → List Instr
 jalrTarget r i = loadReg R10 r ∷ aluImm32 add R10 i ∷ aluImm32 and R10 (2 ^ 32 - 2) ∷ []
 
+-- the second part of `codeJalr`: the link through R11, nothing for x0. RAX gets the target behind it
 abbrev pub jalrLink : ℕ → ℕ → List Instr
 jalrLink r link = cond (eqb r 0) [] (movImm64 R11 link ∷ store RBX (8 * r) R11 ∷ [])
 
@@ -170,35 +209,31 @@ wordBy pc w d =
     cond (eqb (d .opcode) 0x17) (goesOn (codeConst (d .rd) (wrappingAdd pc (Manual.immU w)))) (
     cond (eqb (d .opcode) 0x6F) (ends (codeJal (d .rd) (wrappingAdd pc 4) (wrappingAdd pc (Manual.immJ w)))) (
     cond (eqb (d .opcode) 0x67) (ends (codeJalr (d .rd) (d .rs1) (Manual.immI w % 2 ^ 32) (wrappingAdd pc 4))) (
-    cond (eqb (d .opcode) 0x63)
-    (behind (compare (d .rs1) (d .rs2))
-    (branchBody (kindBranch (d .funct3)) (wrappingAdd pc 4) (wrappingAdd pc (Manual.immB w)))) (
-    cond (eqb (d .opcode) 0x13)
-    (finished (loadReg R10 (d .rs1) ∷ [])
-    (opImmBody (kindOpImm (d .funct3) (d .imm12 / 64)) (Manual.immI w % 2 ^ 32) (d .imm12 % 64) (d .imm12 % 32)) (d .rd)) (
-    cond (eqb (d .opcode) 0x1B)
-    (finished (loadReg R10 (d .rs1) ∷ [])
-    (opImmBody (kindOpImm32 (d .funct3) (d .funct7)) (Manual.immI w % 2 ^ 32) (d .imm12 % 64) (d .imm12 % 32)) (d .rd)) (
-    cond (eqb (d .opcode) 0x33)
-    (finished (loadReg R10 (d .rs1) ∷ loadReg R11 (d .rs2) ∷ []) (opBody (kindOp (d .funct3) (d .funct7))) (d .rd)) (
-    cond (eqb (d .opcode) 0x3B)
-    (finished (loadReg R10 (d .rs1) ∷ loadReg R11 (d .rs2) ∷ []) (opBody (kindOp32 (d .funct3) (d .funct7))) (d .rd)) (
+    cond (eqb (d .opcode) 0x63) (branchWord d (wrappingAdd pc 4) (wrappingAdd pc (Manual.immB w))) (
+    cond (eqb (d .opcode) 0x13) (opImmWord d (Manual.immI w % 2 ^ 32)) (
+    cond (eqb (d .opcode) 0x1B) (opImm32Word d (Manual.immI w % 2 ^ 32)) (
+    cond (eqb (d .opcode) 0x33) (opWord d) (
+    cond (eqb (d .opcode) 0x3B) (op32Word d) (
     cond (eqb (d .opcode) 0x0F) (fenceWord (kindFence (d .funct3)))
     (refused []))))))))))
 
--- the parts of `opening`, `closing` and `passes`
+-- the first part of `opening`, up to the stack pointer's 8 bytes
 abbrev pub pushes : List Instr
 pushes = push RBX ∷ push RBP ∷ push R12 ∷ push R13 ∷ push R14 ∷ push R15 ∷ []
 
+-- the last part of `opening`, behind the stack pointer's 8 bytes
 abbrev pub keeps : List Instr
 keeps = mov RBX RDI ∷ mov R12 RSI ∷ mov R13 RDX ∷ mov R14 RCX ∷ mov R15 R8 ∷ mov RBP R9 ∷ []
 
+-- `closing` behind the stack pointer's 8 bytes
 abbrev pub pops : List Instr
 pops = pop R15 ∷ pop R14 ∷ pop R13 ∷ pop R12 ∷ pop RBP ∷ pop RBX ∷ []
 
+-- the first part of `passes`: what the block was entered with
 abbrev pub hostArguments : List Instr
 hostArguments = mov RDI R12 ∷ mov RSI R13 ∷ mov RDX R14 ∷ []
 
+-- the last part of `passes`: the instruction i at pc, and the address a
 abbrev pub guestArguments : ℕ → ℕ → ℕ → List Instr
 guestArguments i pc a = movImm64 RCX i ∷ movImm64 R8 pc ∷ movImm64 RAX a ∷ []
 

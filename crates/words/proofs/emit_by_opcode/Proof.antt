@@ -1,75 +1,83 @@
+-- Each arm of the match is what `wordBy` has for its opcode, at the immediate, link and target that were worked out.
 use borrow.Author.Needs.{needs}
-use mathlib.Core.Path.{refl}
 use borrow.Author.Tests.{ne-eqb}
-use Rattle.emitter.proofs.Laws.{writes}
+use Rattle.words.proofs.Joined.{words, answered}
 use Rattle.words.proofs.emit_by_opcode.Statement.{statement}
 use Rattle.words.proofs.emit_by_opcode.Tie as tie
 
-returns : tie.Need-returns
-returns c =
-    rw (c .before .before .before .before .before .match .keys1, ← (c .before .before .before .before .imm-u .ensures))
-    (record { flows = refl; wrote = c .before .before .x64-emit-const .ensures })
+lui : tie.Need-returns
+lui c =
+    let const = c .before .before .before in
+    let value = const .before in
+    rw (value .before .before .match .keys1, ← (value .imm-u .ensures))
+    (answered (c .goes-on .ensures) (const .x64-emit-const .ensures))
 
-returns-2 : tie.Need-returns-2
-returns-2 c =
+auipc : tie.Need-returns-2
+auipc c =
+    let const = c .before .before .before in
+    let value = const .before .before in
+    let imm = value .before in
+    rw (imm .before .match .keys2, ← (imm .imm-u2 .ensures), ← (value .wrapping-add-u64 .ensures))
+    (answered (c .goes-on2 .ensures) (const .x64-emit-const2 .ensures))
+
+jal : tie.Need-returns-3
+jal c =
+    let jal = c .before .before .before in
+    let target = jal .before .before in
+    let imm = target .before in
+    let link = imm .before in
     rw (
-      c .before .before .before .before .before .before .match .keys2,
-      ← (c .before .before .before .before .before .imm-u2 .ensures),
-      ← (c .before .before .before .before .wrapping-add-u64 .ensures),
+      link .before .match .keys3,
+      ← (imm .imm-j .ensures),
+      ← (link .wrapping-add-u642 .ensures),
+      ← (target .wrapping-add-u643 .ensures),
     )
-    (record { flows = refl; wrote = c .before .before .x64-emit-const2 .ensures })
+    (answered (c .ends .ensures) (jal .jal .ensures))
 
-returns-3 : tie.Need-returns-3
-returns-3 c =
+jalr : tie.Need-returns-4
+jalr c =
+    let jalr = c .before .before .before in
+    let imm = jalr .before in
+    let link = imm .before .before in
+    rw (link .before .match .keys4, ← (imm .imm32 .ensures), ← (link .wrapping-add-u644 .ensures))
+    (answered (c .ends2 .ensures) (jalr .jalr .ensures))
+
+branch : tie.Need-returns-5
+branch c =
+    let branch = c .before .before in
+    let target = branch .before .before in
+    let imm = target .before in
+    let next = imm .before in
     rw (
-      c .before .before .before .before .before .before .before .match .keys3,
-      ← (c .before .before .before .before .before .imm-j .ensures),
-      ← (c .before .before .before .before .before .before .wrapping-add-u642 .ensures),
-      ← (c .before .before .before .before .wrapping-add-u643 .ensures),
+      next .before .match .keys5,
+      ← (imm .imm-b .ensures),
+      ← (next .wrapping-add-u645 .ensures),
+      ← (target .wrapping-add-u646 .ensures),
     )
-    (record { flows = refl; wrote = c .before .before .jal .ensures })
+    (branch .branch-word .ensures)
 
-returns-4 : tie.Need-returns-4
-returns-4 c =
-    rw (
-      c .before .before .before .before .before .before .match .keys4,
-      ← (c .before .before .before .before .imm-i .ensures),
-      ← (c .before .before .before .before .before .wrapping-add-u644 .ensures),
-    )
-    (record { flows = refl; wrote = c .before .before .jalr .ensures })
+op-imm : tie.Need-returns-6
+op-imm c =
+    let imm = c .before .before .before in
+    rw (imm .before .before .match .keys6, ← (imm .imm322 .ensures)) (c .before .before .op-imm-word .ensures)
 
-returns-5 : tie.Need-returns-5
-returns-5 c =
-    rw (
-      c .before .before .before .before .before .before .before .match .keys5,
-      ← (c .before .before .before .before .before .imm-b .ensures),
-      ← (c .before .before .before .before .before .before .wrapping-add-u645 .ensures),
-      ← (c .before .before .before .before .wrapping-add-u646 .ensures),
-    )
-    (c .before .before .branch-word .ensures)
+op-imm-32 : tie.Need-returns-7
+op-imm-32 c =
+    let imm = c .before .before .before in
+    rw (imm .before .before .match .keys7, ← (imm .imm323 .ensures)) (c .before .before .op-imm-32-word .ensures)
 
-returns-6 : tie.Need-returns-6
-returns-6 c =
-    rw (c .before .before .before .before .before .match .keys6, ← (c .before .before .before .before .imm-i2 .ensures))
-    (c .before .before .op-imm-word .ensures)
+op : tie.Need-returns-8
+op c = rw (c .before .before .before .before .match .keys8) (c .before .before .op-word .ensures)
 
-returns-7 : tie.Need-returns-7
-returns-7 c =
-    rw (c .before .before .before .before .before .match .keys7, ← (c .before .before .before .before .imm-i3 .ensures))
-    (c .before .before .op-imm-32-word .ensures)
+op-32 : tie.Need-returns-9
+op-32 c = rw (c .before .before .before .before .match .keys9) (c .before .before .op-32-word .ensures)
 
-returns-8 : tie.Need-returns-8
-returns-8 c = rw (c .before .before .before .before .match .keys8) (c .before .before .op-word .ensures)
+misc-mem : tie.Need-returns-10
+misc-mem c = rw (c .before .before .before .before .match .keys10) (c .before .before .fence-word .ensures)
 
-returns-9 : tie.Need-returns-9
-returns-9 c = rw (c .before .before .before .before .match .keys9) (c .before .before .op-32-word .ensures)
-
-returns-10 : tie.Need-returns-10
-returns-10 c = rw (c .before .before .before .before .match .keys10) (c .before .before .fence-word .ensures)
-
-returns-11 : tie.Need-returns-11
-returns-11 c =
-    let r = c .match .rest in
+none : tie.Need-returns-11
+none c =
+    let r = c .before .match .rest in
     simp (
       ne-eqb _ _ (r .1),
       ne-eqb _ _ (r .0 .1),
@@ -82,7 +90,7 @@ returns-11 c =
       ne-eqb _ _ (r .0 .0 .0 .0 .0 .0 .0 .0 .1),
       ne-eqb _ _ (r .0 .0 .0 .0 .0 .0 .0 .0 .0 .1),
     )
-    (search (writes, needs))
+    (search (words, needs))
 
 pub emit-by-opcode-spec : {M : Type 1} → statement M
 emit-by-opcode-spec =
@@ -99,39 +107,41 @@ emit-by-opcode-spec =
     (λ c κs. search needs)
     (λ c κs. search needs)
     (λ c κs. search needs)
-    (λ c. search needs)
     (λ c κs. search needs)
     (λ c κs. search needs)
     (λ c κs. search needs)
     (λ c κs. search needs)
     (λ c κs. search needs)
     (λ c κs. search needs)
-    (λ c. search needs)
-    (λ c κs. search needs)
-    (λ c κs. search needs)
-    (λ c. search needs)
     (λ c κs. search needs)
     (λ c κs. search needs)
     (λ c κs. search needs)
     (λ c κs. search needs)
+    (λ c κs. search needs)
+    (λ c κs. search needs)
+    (λ c κs. search needs)
+    (λ c κs. search needs)
+    (λ c κs. search needs)
+    (λ c κs. search needs)
+    (λ c κs. search needs)
     (λ c. search needs)
-    returns
+    lui
     (λ c. search needs)
-    returns-2
+    auipc
     (λ c. search needs)
-    returns-3
+    jal
     (λ c. search needs)
-    returns-4
+    jalr
     (λ c. search needs)
-    returns-5
+    branch
     (λ c. search needs)
-    returns-6
+    op-imm
     (λ c. search needs)
-    returns-7
+    op-imm-32
     (λ c. search needs)
-    returns-8
+    op
     (λ c. search needs)
-    returns-9
+    op-32
     (λ c. search needs)
-    returns-10
-    returns-11)
+    misc-mem
+    none)

@@ -4,10 +4,14 @@ use Rattle.words.proofs.is_load_or_store.Statement.{statement}
 use Rattle.words.proofs.is_load_or_store.Tie as tie
 
 returns : tie.Need-returns
-returns c = rw (c .before .before .decode32 .ensures) (of-load _ (rw (c .before .before .decode32 .ensures) at (c .before .match .keys1)))
+returns c =
+    let e = c .before .before .decode32 .ensures in
+    rw e (of-load _ (rw e at (c .before .match .keys1)))
 
 returns-2 : tie.Need-returns-2
-returns-2 c = rw (c .before .before .decode32 .ensures) (of-store _ (rw (c .before .before .decode32 .ensures) at (c .before .match .keys2)))
+returns-2 c =
+    let e = c .before .before .decode32 .ensures in
+    rw e (of-store _ (rw e at (c .before .match .keys2)))
 
 returns-3 : tie.Need-returns-3
 returns-3 c =

@@ -1,0 +1,48 @@
+-- What holds of every instruction of a family, and of `other`, holds of what the family's match gives (crate agreement,
+-- Translation/Kind). The matches are gone through here once, for every property.
+use mathlib.Core.List.{[], _∷_}
+use Prim.Native.Nat.{ℕ}
+use Rattle.agreement.specs.Riscv.Instruction.{Op, OpImm, Branch, Access, Op.ADD, Op.SUB, Op.MUL, Op.SLL, Op.SLT, Op.SLTU, Op.XOR, Op.SRL, Op.SRA, Op.OR, Op.AND, Op.ADDW, Op.SUBW, Op.MULW, Op.SLLW, Op.SRLW, Op.SRAW, OpImm.ADDI, OpImm.SLTI, OpImm.SLTIU, OpImm.XORI, OpImm.ORI, OpImm.ANDI, OpImm.SLLI, OpImm.SRLI, OpImm.SRAI, OpImm.ADDIW, OpImm.SLLIW, OpImm.SRLIW, OpImm.SRAIW, Branch.BEQ, Branch.BNE, Branch.BLT, Branch.BGE, Branch.BLTU, Branch.BGEU, Access.LB, Access.LH, Access.LW, Access.LD, Access.LBU, Access.LHU, Access.LWU, Access.SB, Access.SH, Access.SW, Access.SD, Instruction, Instruction.op, Instruction.opImm, Instruction.branch, Instruction.access, Instruction.FENCE, Instruction.FENCE·I, Instruction.other}
+use Rattle.agreement.specs.Translation.Kind.{_⇒_, match, kindOp, kindOp32, kindOpImm, kindOpImm32, kindBranch, kindFence, kindLoad, kindStore}
+use Rattle.words.proofs.Matches.{Each, each}
+
+pub each-op : (P : Instruction → Type 0) → ((o : Op) → P (op o)) → P other → (f s : ℕ) → P (kindOp f s)
+unfolding kindOp Each
+each-op P t n f s =
+    let base : (o : Op) → P (match s (0x00 ⇒ op o ∷ [])) = λ o. each P s _ (t o, n) in
+    let adds : P (match s (0x00 ⇒ op ADD ∷ 0x20 ⇒ op SUB ∷ 0x01 ⇒ op MUL ∷ [])) = each P s _ (t ADD, (t SUB, (t MUL, n))) in
+    let shifts : P (match s (0x00 ⇒ op SRL ∷ 0x20 ⇒ op SRA ∷ [])) = each P s _ (t SRL, (t SRA, n)) in
+    each P f _ (adds, (base SLL, (base SLT, (base SLTU, (base XOR, (shifts, (base OR, (base AND, n))))))))
+
+pub each-op-32 : (P : Instruction → Type 0) → ((o : Op) → P (op o)) → P other → (f s : ℕ) → P (kindOp32 f s)
+unfolding kindOp32 Each
+each-op-32 P t n f s = each P f _
+    (each P s _ (t ADDW, (t SUBW, (t MULW, n))), (each P s _ (t SLLW, n), (each P s _ (t SRLW, (t SRAW, n)), n)))
+
+pub each-op-imm : (P : Instruction → Type 0) → ((o : OpImm) → P (opImm o)) → P other → (f s : ℕ) → P (kindOpImm f s)
+unfolding kindOpImm Each
+each-op-imm P t n f s =
+    let left : P (match s (0x00 ⇒ opImm SLLI ∷ [])) = each P s _ (t SLLI, n) in
+    let right : P (match s (0x00 ⇒ opImm SRLI ∷ 0x10 ⇒ opImm SRAI ∷ [])) = each P s _ (t SRLI, (t SRAI, n)) in
+    each P f _ (t ADDI, (t SLTI, (t SLTIU, (t XORI, (t ORI, (t ANDI, (left, (right, n))))))))
+
+pub each-op-imm-32 : (P : Instruction → Type 0) → ((o : OpImm) → P (opImm o)) → P other → (f s : ℕ) → P (kindOpImm32 f s)
+unfolding kindOpImm32 Each
+each-op-imm-32 P t n f s = each P f _
+    (t ADDIW, (each P s _ (t SLLIW, n), (each P s _ (t SRLIW, (t SRAIW, n)), n)))
+
+pub each-branch : (P : Instruction → Type 0) → ((c : Branch) → P (branch c)) → P other → (f : ℕ) → P (kindBranch f)
+unfolding kindBranch Each
+each-branch P t n f = each P f _ (t BEQ, (t BNE, (t BLT, (t BGE, (t BLTU, (t BGEU, n))))))
+
+pub each-fence : (P : Instruction → Type 0) → P FENCE → P FENCE·I → P other → (f : ℕ) → P (kindFence f)
+unfolding kindFence Each
+each-fence P a b n f = each P f _ (a, (b, n))
+
+pub each-load : (P : Instruction → Type 0) → ((a : Access) → P (access a)) → P other → (f : ℕ) → P (kindLoad f)
+unfolding kindLoad Each
+each-load P t n f = each P f _ (t LB, (t LH, (t LW, (t LD, (t LBU, (t LHU, (t LWU, n)))))))
+
+pub each-store : (P : Instruction → Type 0) → ((a : Access) → P (access a)) → P other → (f : ℕ) → P (kindStore f)
+unfolding kindStore Each
+each-store P t n f = each P f _ (t SB, (t SH, (t SW, (t SD, n))))

@@ -1,0 +1,28 @@
+use borrow.Author.Needs.{needs}
+use Rattle.emitter.proofs.Laws.{_then_}
+use Rattle.words.proofs.frame.x64_emit_pops.Statement.{statement}
+use Rattle.words.proofs.frame.x64_emit_pops.Tie as tie
+
+returns : tie.Need-returns
+returns c =
+    let sixth = c .before .before in
+    let fifth = sixth .before .before .before .before in
+    let fourth = fifth .before .before .before .before in
+    let third = fourth .before .before .before .before in
+    let second = third .before .before .before .before in
+    let first = second .before .before .before .before in
+    first .pop-r64 .ensures then second .pop-r642 .ensures then third .pop-r643 .ensures
+    then fourth .pop-r644 .ensures then fifth .pop-r645 .ensures then sixth .pop-r646 .ensures
+
+pub x64-emit-pops-spec : {M : Type 1} → statement M
+x64-emit-pops-spec =
+    tie.close
+    (tie.spec
+    (λ c κs. search needs)
+    (λ c κs. search needs)
+    (λ c κs. search needs)
+    (λ c κs. search needs)
+    (λ c κs. search needs)
+    (λ c κs. search needs)
+    (λ c. search needs)
+    returns)

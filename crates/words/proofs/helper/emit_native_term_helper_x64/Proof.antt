@@ -1,0 +1,27 @@
+use borrow.Author.Needs.{needs}
+use mathlib.Core.List.{[], _∷_, _++_}
+use Rattle.agreement.specs.X86.Form.{Instr.callRax, Instr.ret}
+use Rattle.agreement.specs.Translation.Emit.{passes, addCount, closing}
+use Rattle.words.proofs.Joined.{joined}
+use Rattle.words.proofs.helper.emit_native_term_helper_x64.Statement.{statement}
+use Rattle.words.proofs.helper.emit_native_term_helper_x64.Tie as tie
+
+returns : tie.Need-returns
+returns c =
+    let closes = c .before .before in
+    let counts = closes .before .before .before .before in
+    let calls = counts .before .before .before .before in
+    let a = calls .before .before .before .args in
+    joined (passes (a .instr) (a .pc) (a .helper) ++ callRax ∷ []) (addCount (a .prefix-count) ++ (closing ++ ret ∷ []))
+    (calls .helper-call .ensures)
+    (joined (addCount (a .prefix-count)) (closing ++ ret ∷ []) (counts .add-count .ensures .0) (closes .x64-emit-epilogue .ensures))
+
+pub emit-native-term-helper-x64-spec : {M : Type 1} → statement M
+emit-native-term-helper-x64-spec =
+    tie.close
+    (tie.spec
+    (λ c κs. search needs)
+    (λ c κs. search needs)
+    (λ c κs. search needs)
+    (λ c. search needs)
+    returns)

@@ -1,0 +1,25 @@
+use native.Mathlib.Omega.{arith}
+use borrow.Author.Needs.{needs}
+use Rattle.emitter.proofs.Laws.{writes}
+use Rattle.words.proofs.Joined.{at-zero, at-other}
+use Rattle.words.proofs.jump.jalr_link.Statement.{statement}
+use Rattle.words.proofs.jump.jalr_link.Tie as tie
+
+returns : tie.Need-returns
+returns c = (at-zero (c .before .before .args .rd) _ (omega arith), search needs)
+
+returns-2 : tie.Need-returns-2
+returns-2 c =
+    let start = c .before .before .before .before .before .before .before .before .before .before in
+    (at-other (start .args .rd) _ (omega arith) (search writes), search needs)
+
+pub jalr-link-spec : {M : Type 1} → statement M
+jalr-link-spec =
+    tie.close
+    (tie.spec
+    returns
+    (λ c κs. search needs)
+    (λ c. search needs)
+    (λ c κs. search needs)
+    (λ c. search needs)
+    returns-2)

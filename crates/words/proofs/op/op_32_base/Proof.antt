@@ -1,0 +1,39 @@
+use borrow.Author.Needs.{needs}
+use Rattle.agreement.specs.Translation.Kind.{kindOp32, match}
+use Rattle.words.proofs.Joined.{words}
+use Rattle.words.proofs.Matches.{missed}
+use Rattle.words.proofs.op.op_32_base.Statement.{statement}
+use Rattle.words.proofs.op.op_32_base.Tie as tie
+
+-- the last arm: funct3 is no arm's pattern
+none : tie.Need-returns-4
+unfolding kindOp32
+none c =
+    let r = c .before .match .rest in
+    rw missed (search (words, needs))
+
+pub op-32-base-spec : {M : Type 1} → statement M
+unfolding kindOp32 match
+op-32-base-spec =
+    tie.close
+    (tie.spec
+    (λ c κs. search needs)
+    (λ c κs. search needs)
+    (λ c κs. search needs)
+    (λ c κs. search needs)
+    (λ c κs. search needs)
+    (λ c κs. search needs)
+    (λ c κs. search needs)
+    (λ c κs. search needs)
+    (λ c κs. search needs)
+    (λ c. search needs)
+    (λ c. rw (c .before .before .before .before .before .before .before .before .match .keys1) (search (words, needs)))
+    (λ c. search needs)
+    (λ c.
+    rw (c .before .before .before .before .before .before .before .before .before .before .before .before .match .keys2)
+    (search (words, needs)))
+    (λ c. search needs)
+    (λ c.
+    rw (c .before .before .before .before .before .before .before .before .before .before .before .before .match .keys3)
+    (search (words, needs)))
+    none)

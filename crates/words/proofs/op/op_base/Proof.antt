@@ -1,0 +1,55 @@
+use borrow.Author.Needs.{needs}
+use Rattle.agreement.specs.Translation.Kind.{kindOp, match}
+use Rattle.words.proofs.Joined.{words}
+use Rattle.words.proofs.Matches.{missed}
+use Rattle.words.proofs.op.op_base.Statement.{statement}
+use Rattle.words.proofs.op.op_base.Tie as tie
+
+-- the last arm: funct3 is no arm's pattern
+none : tie.Need-returns-9
+unfolding kindOp
+none c =
+    let r = c .before .match .rest in
+    rw missed (search (words, needs))
+
+pub op-base-spec : {M : Type 1} → statement M
+unfolding kindOp match
+op-base-spec =
+    tie.close
+    (tie.spec
+    (λ c κs. search needs)
+    (λ c κs. search needs)
+    (λ c κs. search needs)
+    (λ c κs. search needs)
+    (λ c κs. search needs)
+    (λ c κs. search needs)
+    (λ c κs. search needs)
+    (λ c κs. search needs)
+    (λ c κs. search needs)
+    (λ c κs. search needs)
+    (λ c κs. search needs)
+    (λ c κs. search needs)
+    (λ c κs. search needs)
+    (λ c κs. search needs)
+    (λ c κs. search needs)
+    (λ c κs. search needs)
+    (λ c κs. search needs)
+    (λ c κs. search needs)
+    (λ c κs. search needs)
+    (λ c. search needs)
+    (λ c. rw (c .before .before .before .before .before .match .keys1) (search (words, needs)))
+    (λ c. search needs)
+    (λ c. rw (c .before .before .before .before .before .before .before .before .before .match .keys2) (search (words, needs)))
+    (λ c. search needs)
+    (λ c. rw (c .before .before .before .before .before .before .before .before .match .keys3) (search (words, needs)))
+    (λ c. search needs)
+    (λ c. rw (c .before .before .before .before .before .before .before .before .match .keys4) (search (words, needs)))
+    (λ c. search needs)
+    (λ c. rw (c .before .before .before .before .before .match .keys5) (search (words, needs)))
+    (λ c. search needs)
+    (λ c. rw (c .before .before .before .before .before .before .before .before .before .match .keys6) (search (words, needs)))
+    (λ c. search needs)
+    (λ c. rw (c .before .before .before .before .before .match .keys7) (search (words, needs)))
+    (λ c. search needs)
+    (λ c. rw (c .before .before .before .before .before .match .keys8) (search (words, needs)))
+    none)

@@ -1,0 +1,36 @@
+use borrow.Author.Needs.{needs}
+use native.Mathlib.Omega.{arith}
+use Rattle.agreement.specs.Translation.Kind.{kindOp}
+use Rattle.words.specs.Word.{loadPair}
+use Rattle.words.proofs.Joined.{finish, op-room}
+use Rattle.words.proofs.op.op_word.Statement.{statement}
+use Rattle.words.proofs.op.op_word.Tie as tie
+
+store-rd-requires : tie.Need-store-rd-requires
+store-rd-requires c κs =
+    let body = c .before .before .before in
+    let loads = body .before .before .before .before in
+    let start = loads .before .before .before in
+    let d = start .args .d in (
+      start .pre .0 .rd-small,
+      op-room (kindOp (d .funct3) (d .funct7))
+          (start .pre .1) (loads .x64-emit-load-pair .ensures) (omega arith) (body .op-on-r10 .ensures),
+    )
+
+returns : tie.Need-returns
+returns c =
+    let stored = c .before .before in
+    let body = stored .before .before .before .before in
+    let loads = body .before .before .before .before in
+    let d = loads .before .before .before .args .d in
+    finish (loadPair (d .rs1) (d .rs2)) (d .rd) (loads .x64-emit-load-pair .ensures) (body .op-on-r10 .ensures) (stored .store-rd .ensures)
+
+pub op-word-spec : {M : Type 1} → statement M
+op-word-spec =
+    tie.close
+    (tie.spec
+    (λ c κs. search needs)
+    (λ c κs. search needs)
+    store-rd-requires
+    (λ c. search needs)
+    returns)

@@ -1,0 +1,52 @@
+use borrow.Author.Needs.{needs}
+use borrow.Author.Tests.{ne-eqb}
+use Rattle.agreement.specs.Translation.Kind.{kindOpImm32, match}
+use Rattle.words.proofs.Joined.{words}
+use Rattle.words.proofs.Matches.{missed}
+use Rattle.words.proofs.op_imm.op_imm_32_on_r10.Statement.{statement}
+use Rattle.words.proofs.op_imm.op_imm_32_on_r10.Tie as tie
+
+-- the last arm: funct3 is no arm's pattern
+none : tie.Need-returns-7
+unfolding kindOpImm32
+none c =
+    let r = c .before .match .rest in
+    rw missed (search (words, needs))
+
+pub op-imm-32-on-r10-spec : {M : Type 1} → statement M
+unfolding kindOpImm32 match
+op-imm-32-on-r10-spec =
+    tie.close
+    (tie.spec
+    (λ c. search needs)
+    (λ c κs. search needs)
+    (λ c κs. search needs)
+    (λ c κs. search needs)
+    (λ c κs. search needs)
+    (λ c κs. search needs)
+    (λ c κs. search needs)
+    (λ c κs. search needs)
+    (λ c κs. search needs)
+    (λ c κs. search needs)
+    (λ c κs. search needs)
+    (λ c κs. search needs)
+    (λ c. search needs)
+    (λ c. rw (c .before .before .before .before .before .before .before .before .match .keys1) (search (words, needs)))
+    (λ c. search needs)
+    (λ c.
+    let arm = c .before .before .before .before .before .before .before .before in
+    rw (arm .before .match .keys2, arm .match2 .keys1) (search (words, needs)))
+    (λ c. rw (c .before .before .match .keys2, ne-eqb _ _ (c .before .match2 .rest .1)) (search (words, needs)))
+    (λ c. search needs)
+    (λ c.
+    let arm = c .before .before .before .before .before .before .before .before in
+    rw (arm .before .match .keys3, arm .match3 .keys1) (search (words, needs)))
+    (λ c. search needs)
+    (λ c.
+    let arm = c .before .before .before .before .before .before .before .before in
+    rw (arm .before .match .keys3, arm .match3 .keys2) (search (words, needs)))
+    (λ c.
+    let arm = c .before in
+    let r = arm .match3 .rest in
+    rw (arm .before .match .keys3, ne-eqb _ _ (r .0 .1), ne-eqb _ _ (r .1)) (search (words, needs)))
+    none)

@@ -1,0 +1,16 @@
+use borrow.Author.Needs.{needs}
+use Rattle.emitter.proofs.Laws.{writes}
+use Rattle.words.proofs.slots.x64_emit_load_pair.Statement.{statement}
+use Rattle.words.proofs.slots.x64_emit_load_pair.Tie as tie
+
+returns : tie.Need-returns
+returns c = search writes
+
+pub x64-emit-load-pair-spec : {M : Type 1} → statement M
+x64-emit-load-pair-spec =
+    tie.close
+    (tie.spec
+    (λ c κs. search needs)
+    (λ c κs. search needs)
+    (λ c. search needs)
+    returns)
