@@ -52,7 +52,7 @@ pub fn hexadecimal(line: &[u8], from: usize) -> Field {
     }
 }
 
-// Below 10^18 and a little more.
+// Up to 64 bits: 18446744073709551615 is the greatest.
 pub fn decimal(line: &[u8], from: usize) -> Field {
     let mut value = 0u64;
     for at in from..line.len() {
@@ -64,7 +64,7 @@ pub fn decimal(line: &[u8], from: usize) -> Field {
                 good: at > from,
             };
         }
-        if value >= 1_000_000_000_000_000_000 {
+        if value > (0xFFFF_FFFF_FFFF_FFFF - d as u64) / 10 {
             return no_number(at);
         }
         value = value * 10 + d as u64;

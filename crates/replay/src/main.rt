@@ -2,13 +2,17 @@
 //
 //     T <start hex> <limit> <helper16 hex> <helper_mem hex> <output length> <hhhh,hhhh,... or ->
 //         block <length> <count> <bytes hex> | 1 | 2 <start hex> | 3 <index> | 4 <word hex> | 5
+//     P <used> <store length> <code length>
+//         placed <offset> <new mark> | 6 | 7
 //     D <word hex>
 //         imm_i imm_s imm_b imm_u imm_j opcode rd funct3 rs1 rs2 funct7 imm12, in decimal, the immediates signed
 //
-// Other numbers are decimal. A line that is no request, or has over 8,192 bytes, or asks for an output of over 65,536, gets
-// `bad request`, and the program goes on. Where bytes of the output that are not the block's changed, `touched` is behind the reply.
+// Other numbers are decimal. A line that is no request, or has over 8,192 bytes, or asks for lent bytes of over 65,536, gets
+// `bad request`, and the program goes on. Where lent bytes or a mark changed that must not, `touched` is behind the reply.
 mod decoding;
 mod fields;
+mod pattern;
+mod placing;
 mod translation;
 
 use libc::STDIN_FILENO;
@@ -26,6 +30,10 @@ fn reply(line: &[u8]) {
                 }
                 b'T' => {
                     translation::reply(line);
+                    return;
+                }
+                b'P' => {
+                    placing::reply(line);
                     return;
                 }
                 _ => {}

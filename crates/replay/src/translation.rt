@@ -1,31 +1,12 @@
 // T lines: a translation into an output that was filled with a pattern, by which it is seen whether other bytes changed.
 use crate::fields;
+use crate::pattern;
 use block::Answer;
 use libc::STDOUT_FILENO;
 ghost use mathlib.Core.Path.{_≡_};
 ghost use Prim.Native.Nat.{_%_, _<_, _≤_};
 
 const DIGITS: [u8; 16] = *b"0123456789abcdef";
-
-// 251 is prime to every length of a run of bytes that is a power of two: no copy to another place goes unseen.
-fn pattern(i: usize) -> u8 {
-    (i % 251) as u8
-}
-
-fn fill(out: &mut [u8]) {
-    for i in 0..out.len() {
-        out[i] = pattern(i);
-    }
-}
-
-fn is_untouched(out: &[u8], from: usize) -> bool {
-    for i in from..out.len() {
-        if out[i] != pattern(i) {
-            return false;
-        }
-    }
-    true
-}
 
 fn hex_digit(d: u8) -> u8 {
     DIGITS[(d % 16) as usize]
@@ -103,10 +84,10 @@ fn answer(
     helper_mem: u64,
     out: &mut [u8],
 ) {
-    fill(out);
+    pattern::fill(out);
     let answer = block::translate(start, limit, halfwords, helper16, helper_mem, out);
     let used = print_answer(answer, out);
-    if !is_untouched(out, used) {
+    if !pattern::is_untouched(out, used, out.len()) {
         io::write_all(STDOUT_FILENO, b" touched");
     }
     io::write_all(STDOUT_FILENO, b"\n");

@@ -1,0 +1,87 @@
+// P lines: code placed in a store that was filled with a pattern.
+use crate::fields;
+use crate::pattern;
+use libc::STDOUT_FILENO;
+use store::Placing;
+
+fn code_byte(i: usize) -> u8 {
+    255 - (i % 241) as u8
+}
+
+fn fill_code(code: &mut [u8]) {
+    for i in 0..code.len() {
+        code[i] = code_byte(i);
+    }
+}
+
+// Whether the code stands in the store from the offset on.
+fn is_copied(store: &[u8], offset: usize, code: &[u8]) -> bool {
+    for i in 0..code.len() {
+        if i >= store.len() {
+            return false;
+        }
+        if offset >= store.len() - i {
+            return false;
+        }
+        if store[offset + i] != code[i] {
+            return false;
+        }
+    }
+    true
+}
+
+// Prints the answer; whether the store and the mark are then as they must be.
+fn print_answer(placing: Placing, used: usize, mark: usize, code: &[u8], store: &[u8]) -> bool {
+    match placing {
+        Placing::Placed { offset, mark: end } => {
+            io::write_all(STDOUT_FILENO, b"placed ");
+            io::print_decimal(STDOUT_FILENO, offset as u64);
+            io::write_all(STDOUT_FILENO, b" ");
+            io::print_decimal(STDOUT_FILENO, end as u64);
+            let before = pattern::is_untouched(store, 0, offset);
+            let behind = pattern::is_untouched(store, end, store.len());
+            let copied = is_copied(store, offset, code);
+            before && behind && copied && mark == end
+        }
+        Placing::Beyond => {
+            io::write_all(STDOUT_FILENO, b"6");
+            mark == used && pattern::is_untouched(store, 0, store.len())
+        }
+        Placing::Full => {
+            io::write_all(STDOUT_FILENO, b"7");
+            mark == used && pattern::is_untouched(store, 0, store.len())
+        }
+    }
+}
+
+fn answer(used: usize, code: &mut [u8], store: &mut [u8]) {
+    fill_code(code);
+    pattern::fill(store);
+    let a = store::alloc_from(used, code, store);
+    let placing = a.placing;
+    if !print_answer(placing, used, a.used, code, store) {
+        io::write_all(STDOUT_FILENO, b" touched");
+    }
+    io::write_all(STDOUT_FILENO, b"\n");
+}
+
+pub fn reply(line: &[u8]) {
+    let used = fields::decimal(line, 2);
+    let size = fields::decimal(line, fields::behind(line, used));
+    let length = fields::decimal(line, fields::behind(line, size));
+    let room = size.value as usize;
+    let n = length.value as usize;
+    if !length.good {
+        crate::bad_request();
+    } else if length.next != line.len() {
+        crate::bad_request();
+    } else if room > 65536 {
+        crate::bad_request();
+    } else if n > 65536 {
+        crate::bad_request();
+    } else {
+        let mut code = io::large_buffer();
+        let mut store = io::large_buffer();
+        answer(used.value as usize, &mut code[..n], &mut store[..room]);
+    }
+}

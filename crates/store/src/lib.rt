@@ -1,0 +1,97 @@
+// `NativeCodeCache::alloc` and `clear` of src/hart.rs: where a block goes in the code store.
+ghost use mathlib.Core.Path.{_≡_};
+ghost use mathlib.Core.List.{_++_};
+ghost use Prim.Native.Nat.{_+_, _≤_};
+ghost use lib.ListN.{length, take, drop};
+ghost use Rattle.store.specs.Places.{Places, markOf, Allocates};
+
+// Document 01, "Replies". `specs/Places` gives each case its number and values.
+pub enum Placing {
+    Placed { offset: usize, mark: usize },
+    Beyond,
+    Full,
+}
+
+// The record of the store: how much of it is used. The store's bytes are lent beside it.
+pub struct NativeCodeCache {
+    pub used: usize,
+}
+
+fn copy_at(code: &[u8], store: &mut [u8], offset: usize)
+    requires { ⌜ offset + length (now code) ≤ length (now store) ⌝ }
+    ensures { λ _. ⌜ now (store .exit)
+        ≡ take offset (now (store .entry)) ++ (now (code .entry) ++ drop (offset + length (now (code .entry))) (now (store .entry))) ⌝ }
+{
+    let mut i = 0;
+    while i < code.len() {
+        store[offset + i] = code[i];
+        i += 1;
+    }
+}
+
+// The code behind the mark, rounded up to a multiple of 4. What is free is compared with what is needed, so no sum can wrap.
+pub fn place(code: &[u8], store: &mut [u8], used: usize) -> Placing
+    ensures { λ r. ⌜ Places (now (code .entry)) used (now (store .entry)) (now (store .exit)) r ⌝ }
+{
+    if store.len() < used {
+        return Placing::Beyond;
+    }
+    let over = used % 4;
+    let pad = (4 - over) % 4;
+    let free = store.len() - used;
+    if free < pad {
+        return Placing::Full;
+    }
+    if free - pad < code.len() {
+        return Placing::Full;
+    }
+    let offset = used + pad;
+    let mark = offset + code.len();
+    copy_at(code, store, offset);
+    Placing::Placed { offset, mark }
+}
+
+fn mark_after(used: usize, placing: Placing) -> usize
+    ensures { λ r. ⌜ r ≡ markOf used placing ⌝ }
+{
+    match placing {
+        Placing::Placed { offset: _, mark } => mark,
+        Placing::Beyond => used,
+        Placing::Full => used,
+    }
+}
+
+// The record is lent, and its mark moves where the code was placed.
+pub fn alloc(cache: &mut NativeCodeCache, code: &[u8], store: &mut [u8]) -> Placing
+    ensures { λ r. ⌜ Allocates (now (code .entry)) (now (cache .entry) .used) (now (cache .exit) .used)
+        (now (store .entry)) (now (store .exit)) r ⌝ }
+{
+    let used = cache.used;
+    let placing = place(code, store, used);
+    cache.used = mark_after(used, placing);
+    placing
+}
+
+// For a caller that keeps the mark as a number.
+pub struct Allocated {
+    pub placing: Placing,
+    pub used: usize,
+}
+
+pub fn alloc_from(used: usize, code: &[u8], store: &mut [u8]) -> Allocated
+    ensures { λ r. ⌜ Allocates (now (code .entry)) used (r .used) (now (store .entry)) (now (store .exit)) (r .placing) ⌝ }
+{
+    let mut cache = NativeCodeCache { used };
+    let placing = alloc(&mut cache, code, store);
+    Allocated {
+        placing,
+        used: cache.used,
+    }
+}
+
+// The mark returns to 0; the store's bytes stay as they are.
+pub fn clear(cache: &mut NativeCodeCache)
+    ensures { λ _. ⌜ now (cache .exit) .used ≡ 0 ⌝ }
+{
+    cache.used = 0;
+}
