@@ -1,6 +1,7 @@
 pub mod Fetching
 pub mod Stepping
 pub mod Written
+pub mod Looping
 pub mod Replying
 pub mod Reading
 pub mod Turns

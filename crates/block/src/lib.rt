@@ -54,7 +54,7 @@ fn compile_native_block(
         (now (out .entry)) (now (out .exit)) r ⌝ }
 {
     let a = words::x64_emit_prologue(X64Emitter { at: 0 }, out);
-    let w = walk::emit_words(a, out, halfwords, 0, start, 0, steps);
+    let w = walk::emit_words(a, out, halfwords, start, steps);
     let b = w.em;
     let end = w.end;
     close::close(b, out, end, w.emitted, helper16, helper_mem)

@@ -1,0 +1,495 @@
+#!/usr/bin/env python3
+"""Blocks read by objdump and compared with qemu-riscv64: what others say of the definitions. Not part of the gate.
+
+    checks/outsiders.py [--seed N] [--blocks N] [--runs N] [--spoil]
+
+Needs the program translate (`rt check translate` at the repository's root builds it into target/bin), objdump (binutils) for
+the first part, and an x86-64 Linux with qemu-riscv64 (Debian: qemu-user) for the second; QEMU_RISCV64 may name the latter.
+A part whose tool is missing is skipped and says so.
+
+1. objdump: random runs are translated, and objdump reads the blocks. Instruction boundaries must meet every block's start and
+   end, nothing may be (bad), opening and closing must be document 01's, and between them every instruction must be the one
+   that the word's row in the table below says, operands included.
+2. qemu: random runs of straight words, with or without a jump or branch at the end, are translated and entered on this
+   processor. The same words stand in the memory of a RISC-V program under qemu-riscv64, which is led through them by single
+   steps over its debugger's port. All registers and the pc must be the same after the block's count of steps. JALR has funct3
+   0, since qemu refuses the others.
+
+With --spoil, each part changes one thing (a byte of a block, a word of a run) and must notice: the exit code is then 1.
+
+Ends with exit code 0 where nothing disagreed, 1 at the first disagreement, 2 where nothing could be checked.
+"""
+
+import argparse
+import ctypes
+import mmap
+import os
+import platform
+import random
+import re
+import shutil
+import socket
+import struct
+import subprocess
+import sys
+import tempfile
+import time
+
+ROOT = os.path.dirname(os.path.dirname(os.path.abspath(__file__)))
+TRANSLATE = os.path.join(ROOT, "target", "bin", "translate")
+START = 0x80000000
+M64 = (1 << 64) - 1
+
+
+class Disagreement(Exception):
+    pass
+
+
+def demand(condition, *what):
+    if not condition:
+        raise Disagreement(" ".join(str(x) for x in what))
+
+
+# ---- words
+
+IMM = {0: "add", 2: "slti", 3: "sltiu", 4: "xor", 6: "or", 7: "and"}
+OP = {(0, 0): "add", (32, 0): "sub", (0, 1): "shl", (0, 2): "slt", (0, 3): "sltu", (0, 4): "xor", (0, 5): "shr", (32, 5): "sar",
+      (0, 6): "or", (0, 7): "and", (1, 0): "imul"}
+OP32 = {(0, 0): "add", (32, 0): "sub", (0, 1): "shl", (0, 5): "shr", (32, 5): "sar", (1, 0): "imul"}
+BRANCH = {0: "e", 1: "ne", 4: "l", 5: "ge", 6: "b", 7: "ae"}
+
+
+class Words:
+    """Random words by sort."""
+
+    def __init__(self, rng):
+        self.rng = rng
+
+    def register(self):
+        return self.rng.choice((0, 1, 15, 16, 31)) if self.rng.random() < .3 else self.rng.randrange(32)
+
+    def word(self, opcode, funct3, upper):
+        return upper << 20 | self.register() << 15 | funct3 << 12 | self.register() << 7 | opcode
+
+    def twelve(self):
+        return self.rng.choice((0, 1, 0x7FF, 0x800, 0xFFF)) if self.rng.random() < .3 else self.rng.randrange(4096)
+
+    def straight(self):
+        rng = self.rng
+        sort = rng.randrange(9)
+        if sort == 0:
+            return rng.randrange(1 << 20) << 12 | self.register() << 7 | rng.choice((0x37, 0x17))
+        if sort in (1, 2):
+            return self.word(0x13, rng.choice(tuple(IMM)), self.twelve())
+        if sort == 3:
+            funct3, six = rng.choice(((1, 0), (5, 0), (5, 0x10)))
+            return self.word(0x13, funct3, six << 6 | rng.randrange(64))
+        if sort == 4:
+            return self.word(0x1B, 0, self.twelve())
+        if sort == 5:
+            funct3, seven = rng.choice(((1, 0), (5, 0), (5, 32)))
+            return self.word(0x1B, funct3, seven << 5 | rng.randrange(32))
+        if sort in (6, 7):
+            opcode, rows = rng.choice(((0x33, OP), (0x3B, OP32)))
+            seven, funct3 = rng.choice(tuple(rows))
+            return self.word(opcode, funct3, seven << 5 | self.register())
+        return self.word(0x0F, rng.randrange(2), self.twelve())
+
+    def ending(self, reserved):
+        rng = self.rng
+        sort = rng.randrange(3)
+        if sort == 0:
+            return rng.randrange(1 << 20) << 12 | self.register() << 7 | 0x6F
+        if sort == 1:
+            return self.word(0x67, rng.randrange(8) if reserved else 0, self.twelve())
+        return self.word(0x63, rng.choice(tuple(BRANCH)), rng.randrange(4096))
+
+    def memory(self):
+        opcode, most = self.rng.choice(((0x03, 7), (0x23, 4)))
+        return self.word(opcode, self.rng.randrange(most), self.twelve())
+
+    def refused(self):
+        rng = self.rng
+        return rng.choice((
+            self.word(0x33, rng.randrange(1, 8), 1 << 5 | self.register()),
+            self.word(0x3B, rng.choice((2, 3, 4, 6, 7)), self.register()),
+            self.word(0x13, 1, rng.randrange(1, 64) << 6 | rng.randrange(64)),
+            self.word(0x1B, rng.choice((2, 3, 4, 6, 7)), self.twelve()),
+            self.word(0x63, rng.choice((2, 3)), self.twelve()),
+            self.word(0x0F, rng.randrange(2, 8), self.twelve()),
+            self.word(0x03, 7, self.twelve()),
+            self.word(0x73, rng.randrange(8), self.twelve()),
+            self.word(0x2F, rng.choice((2, 3)), self.twelve()),
+        ))
+
+
+def code_of(words, halfword=None):
+    code = b"".join(struct.pack("<I", word) for word in words)
+    return code if halfword is None else code + struct.pack("<H", halfword)
+
+
+def translate(code):
+    """The block of up to 256 bytes of code at 0x80000000, empty where refused."""
+    return subprocess.run([TRANSLATE], input=code, stdout=subprocess.PIPE, check=True).stdout
+
+
+# ---- what objdump is to read
+
+OPENING = ["push rbx", "push rbp", "push r12", "push r13", "push r14", "push r15", "sub rsp,0x8", "mov rbx,rdi", "mov r12,rsi",
+           "mov r13,rdx", "mov r14,rcx", "mov r15,r8", "mov rbp,r9"]
+CLOSING = ["add rsp,0x8", "pop r15", "pop r14", "pop r13", "pop r12", "pop rbp", "pop rbx", "ret"]
+
+
+def signed(value, width):
+    value &= (1 << width) - 1
+    return value - (1 << width) if value >> (width - 1) else value
+
+
+def number(value):
+    return hex(value & M64)
+
+
+def load(host, register):
+    return f"mov {host},QWORD PTR [rbx+{hex(8 * register)}]"
+
+
+def store(register, host):
+    return [f"mov QWORD PTR [rbx+{hex(8 * register)}],{host}"] if register else []
+
+
+def host_instructions(word, pc):
+    """The host instructions of a word, and 'on', 'ends', 'helper' or 'refused'."""
+    opcode, rd, funct3 = word & 0x7F, word >> 7 & 31, word >> 12 & 7
+    rs1, rs2, seven = word >> 15 & 31, word >> 20 & 31, word >> 25
+    i = signed(word >> 20, 12)
+    set_less = lambda condition: [f"set{condition} al", "movzx r10,al"]
+    if opcode in (0x37, 0x17):
+        value = signed(word & 0xFFFFF000, 32) + (pc if opcode == 0x17 else 0)
+        return ([f"movabs r10,{number(value)}"] + store(rd, "r10") if rd else []), "on"
+    if opcode == 0x6F:
+        offset = signed(word >> 31 << 20 | (word >> 12 & 255) << 12 | (word >> 20 & 1) << 11 | (word >> 21 & 1023) << 1, 21)
+        link = [f"movabs r10,{number(pc + 4)}"] + store(rd, "r10") if rd else []
+        return link + [f"movabs rax,{number(pc + offset)}"], "ends"
+    if opcode == 0x67:
+        link = [f"movabs r11,{number(pc + 4)}"] + store(rd, "r11") if rd else []
+        return [load("r10", rs1), f"add r10,{number(i)}", f"and r10,{number(-2)}"] + link + ["mov rax,r10"], "ends"
+    if opcode == 0x63:
+        text = [load("r10", rs1), load("r11", rs2), "cmp r10,r11"]
+        if funct3 not in BRANCH:
+            return text, "refused"
+        offset = signed(word >> 31 << 12 | (word >> 7 & 1) << 11 | (word >> 25 & 63) << 5 | (word >> 8 & 15) << 1, 13)
+        return text + [f"movabs r11,{number(pc + 4)}", f"movabs rax,{number(pc + offset)}", f"cmov{BRANCH[funct3]} r11,rax",
+                       "mov rax,r11"], "ends"
+    if opcode == 0x13:
+        text = [load("r10", rs1)]
+        shift = {(1, 0): "shl", (5, 0): "shr", (5, 16): "sar"}.get((funct3, word >> 26))
+        if funct3 in (2, 3):
+            text += [f"cmp r10,{number(i)}"] + set_less("l" if funct3 == 2 else "b")
+        elif funct3 in IMM:
+            text += [f"{IMM[funct3]} r10,{number(i)}"]
+        elif shift:
+            text += [f"{shift} r10,{hex(word >> 20 & 63)}"]
+        else:
+            return text, "refused"
+        return text + store(rd, "r10"), "on"
+    if opcode == 0x1B:
+        text = [load("r10", rs1)]
+        shift = {(1, 0): "shl", (5, 0): "shr", (5, 32): "sar"}.get((funct3, seven))
+        if funct3 == 0:
+            text += [f"add r10,{number(i)}"]
+        elif shift:
+            text += [f"{shift} r10d,{hex(rs2)}"]
+        else:
+            return text, "refused"
+        return text + ["movsxd r10,r10d"] + store(rd, "r10"), "on"
+    if opcode in (0x33, 0x3B):
+        text = [load("r10", rs1), load("r11", rs2)]
+        name = (OP if opcode == 0x33 else OP32).get((seven, funct3))
+        if name is None:
+            return text, "refused"
+        a, b = ("r10", "r11") if opcode == 0x33 else ("r10d", "r11d")
+        if name in ("shl", "shr", "sar"):
+            text += ["mov rcx,r11"] + ([] if opcode == 0x33 else ["and rcx,0x1f"]) + [f"{name} {a},cl"]
+        elif name in ("slt", "sltu"):
+            text += ["cmp r10,r11"] + set_less("l" if name == "slt" else "b")
+        else:
+            text += [f"{name} {a},{b}"]
+        return text + ([] if opcode == 0x33 else ["movsxd r10,r10d"]) + store(rd, "r10"), "on"
+    if opcode == 0x0F and funct3 < 2:
+        return [], "on"
+    if opcode == 0x03 and funct3 < 7 or opcode == 0x23 and funct3 < 4:
+        return [], "helper"
+    return [], "refused"
+
+
+def helper_end(instruction, pc, earlier):
+    return (["mov rdi,r12", "mov rsi,r13", "mov rdx,r14", f"movabs rcx,{number(instruction)}", f"movabs r8,{number(pc)}", "movabs rax,0x0",
+             "call rax"] + ([f"add rdx,{hex(earlier)}"] if earlier else []) + CLOSING)
+
+
+def expected(code):
+    """The instructions of a block, or nothing where the first word is refused."""
+    text, pc, count, at, rax = list(OPENING), START, 0, 0, False
+    while count < 64 and at + 2 <= len(code):
+        low = struct.unpack_from("<H", code, at)[0]
+        if low & 3 != 3:
+            return text + helper_end(low, pc, count)
+        if at + 4 > len(code):
+            break
+        word = struct.unpack_from("<I", code, at)[0]
+        more, flow = host_instructions(word, pc)
+        text += more
+        if flow == "helper":
+            return text + helper_end(word, pc, count)
+        if flow == "refused":
+            break
+        pc, at, count = pc + 4, at + 4, count + 1
+        if flow == "ends":
+            rax = True
+            break
+    if count == 0:
+        return []
+    return text + ([] if rax else [f"movabs rax,{number(pc)}"]) + [f"movabs rdx,{hex(count)}"] + CLOSING
+
+
+def disassembled(data):
+    """Place, length and text of each instruction, as objdump reads them."""
+    with tempfile.NamedTemporaryFile() as file:
+        file.write(data)
+        file.flush()
+        output = subprocess.run(["objdump", "-D", "-z", "-w", "-b", "binary", "-m", "i386:x86-64", "-M", "intel", file.name],
+                                stdout=subprocess.PIPE, check=True, text=True).stdout
+    result = []
+    for line in output.splitlines():
+        match = re.match(r"\s*([0-9a-f]+):\t((?:[0-9a-f]{2} )+)\s*\t?(.*)$", line)
+        if match:
+            text = " ".join(match[3].split())
+            result.append((int(match[1], 16), len(match[2].split()), text))
+    return result
+
+
+def runs_for_objdump(words, number_of_runs):
+    rng = words.rng
+    for _ in range(number_of_runs):
+        straight = [words.straight() for _ in range(rng.choice((0, 1, 1, 2, 4, 16, 63, 64)))]
+        end = rng.randrange(6)
+        if end == 0:
+            straight = straight[:63] + [words.ending(True)]
+        elif end == 1:
+            straight = straight[:63] + [words.memory()]
+        elif end == 2:
+            straight = straight[:63] + [words.refused()]
+        halfword = None
+        if end == 3:
+            straight = straight[:63]
+            halfword = rng.randrange(1 << 14) << 2 | rng.randrange(3)
+        elif end == 4:
+            straight = straight[:63]
+            halfword = 0x0093
+        yield code_of(straight, halfword)
+
+
+def check_objdump(words, number_of_runs, spoil):
+    blocks, data, refused = [], bytearray(), 0
+    for code in runs_for_objdump(words, number_of_runs):
+        block = translate(code)
+        want = expected(code)
+        demand(bool(block) == bool(want), "refused or not:", code.hex())
+        if block:
+            blocks.append((code, len(data), len(block), want))
+            data += block
+        else:
+            refused += 1
+    if spoil:
+        _, at, length, _ = blocks[len(blocks) // 2]
+        data[at + length // 2] ^= 1
+    by_place = {place: (length, text) for place, length, text in disassembled(bytes(data))}
+    instructions = 0
+    for code, at, length, want in blocks:
+        place, texts = at, []
+        while place < at + length:
+            demand(place in by_place, f"no instruction begins at {place - at} of the block of {code.hex()}")
+            size, text = by_place[place]
+            demand("(bad)" not in text, f"bad instruction at {place - at} of the block of {code.hex()}")
+            texts.append(text)
+            place += size
+        demand(place == at + length, "the last instruction goes beyond the block of", code.hex())
+        for k, (is_text, want_text) in enumerate(zip(texts, want)):
+            demand(is_text == want_text, f"instruction {k} of the block of {code.hex()}: {is_text}, not {want_text}")
+        demand(len(texts) == len(want), "number of instructions of the block of", code.hex())
+        instructions += len(texts)
+    print(f"objdump: {len(blocks)} blocks, {len(data)} bytes, {instructions} instructions as expected; {refused} runs refused")
+
+
+# ---- blocks entered on this processor
+
+class Result(ctypes.Structure):
+    _fields_ = [("pc", ctypes.c_uint64), ("count", ctypes.c_uint64)]
+
+
+class Processor:
+    def __init__(self):
+        self.memory = mmap.mmap(-1, 8192, prot=mmap.PROT_READ | mmap.PROT_WRITE | mmap.PROT_EXEC)
+        self.held = ctypes.c_char.from_buffer(self.memory)
+        kind = ctypes.CFUNCTYPE(Result, ctypes.c_void_p, *[ctypes.c_uint64] * 5)
+        self.enter = kind(ctypes.addressof(self.held))
+
+    def run(self, block, registers):
+        """Registers, pc and count after the block. It must have no helper end: the program's helpers are 0."""
+        self.memory[:len(block)] = block
+        slots = (ctypes.c_uint64 * 32)(*registers)
+        result = self.enter(ctypes.addressof(slots), 1, 2, 3, 4, 5)
+        return list(slots), result.pc, result.count
+
+
+class Qemu:
+    """A RISC-V program under qemu-riscv64, led over its debugger's port: a page for the words, a page with a loop that copies, and a page
+    to copy from. qemu lets the debugger write no page that it has translated code from, but it lets the program do so."""
+
+    COPY, FROM = START + 0x1000, START + 0x2000
+    LOOP = [
+        0x00033283,  # LD x5, 0(x6)
+        0x0053B023,  # SD x5, 0(x7)
+        0x00830313,  # ADDI x6, x6, 8
+        0x00838393,  # ADDI x7, x7, 8
+        0xFFC318E3,  # BNE x6, x28, -16
+        0x00100073,  # EBREAK
+    ]
+
+    def __init__(self, program):
+        self.folder = tempfile.TemporaryDirectory()
+        name = os.path.join(self.folder.name, "pages")
+        pages = bytes(0x1000) + code_of(self.LOOP).ljust(0x1000, b"\0") + bytes(0x1000)
+        header = struct.pack("<16sHHIQQQIHHHHHH", b"\x7fELF\x02\x01\x01", 2, 243, 1, START, 64, 0, 0, 64, 56, 1, 0, 0, 0)
+        segment = struct.pack("<IIQQQQQQ", 1, 7, 0x1000, START, START, len(pages), len(pages), 0x1000)
+        with open(name, "wb") as file:
+            file.write((header + segment).ljust(0x1000, b"\0") + pages)
+        os.chmod(name, 0o700)
+        with socket.socket() as probe:
+            probe.bind(("127.0.0.1", 0))
+            port = probe.getsockname()[1]
+        self.process = subprocess.Popen([program, "-g", str(port), name], stdin=subprocess.DEVNULL)
+        self.socket = self.connect(port)
+        self.socket.setsockopt(socket.IPPROTO_TCP, socket.TCP_NODELAY, 1)
+        self.buffer = b""
+        self.ask("?")
+
+    def connect(self, port):
+        for _ in range(200):
+            try:
+                return socket.create_connection(("127.0.0.1", port), 30)
+            except ConnectionRefusedError:
+                if self.process.poll() is not None:
+                    raise RuntimeError("qemu ended")
+                time.sleep(.05)
+        raise RuntimeError("qemu does not listen")
+
+    def ask(self, command):
+        data = command.encode()
+        self.socket.sendall(b"$%s#%02x" % (data, sum(data) & 255))
+        while True:
+            match = re.search(rb"\$([^#]*)#..", self.buffer)
+            if match:
+                self.buffer = self.buffer[match.end():]
+                self.socket.sendall(b"+")
+                return match[1].decode()
+            more = self.socket.recv(65536)
+            if not more:
+                raise RuntimeError("qemu closed the connection")
+            self.buffer += more
+
+    def set(self, registers, pc):
+        demand(self.ask("G" + struct.pack("<33Q", *registers, pc).hex()) == "OK", "qemu does not take the registers")
+
+    def run(self, words, registers, count):
+        """Registers and pc after so many single steps through the words."""
+        code = code_of(words)
+        code += bytes(-len(code) % 8)
+        demand(self.ask(f"M{self.FROM:x},{len(code):x}:{code.hex()}") == "OK", "qemu does not take the words")
+        copying = [0] * 32
+        copying[6], copying[7], copying[28] = self.FROM, START, self.FROM + len(code)
+        self.set(copying, self.COPY)
+        demand(self.ask("c").startswith("T05"), "qemu did not copy the words")
+        self.set(registers, START)
+        for _ in range(count):
+            reply = self.ask("s")
+            demand(reply.startswith("T05"), "qemu did not step:", reply, code.hex())
+        numbers = struct.unpack_from("<33Q", bytes.fromhex(self.ask("g")))
+        return list(numbers[:32]), numbers[32]
+
+    def close(self):
+        self.socket.close()
+        self.process.kill()
+        self.process.wait()
+        self.folder.cleanup()
+
+
+def values(rng):
+    limits = (0, 1, 31, 32, 63, 64, (1 << 31) - 1, 1 << 31, (1 << 32) - 1, 1 << 32, (1 << 63) - 1, 1 << 63, M64)
+    return [0] + [rng.choice(limits) if rng.random() < .4 else rng.getrandbits(64) for _ in range(31)]
+
+
+def check_qemu(program, words, number_of_runs, spoil):
+    rng = words.rng
+    processor, qemu = Processor(), Qemu(program)
+    steps = 0
+    try:
+        for k in range(number_of_runs):
+            run = [words.straight() for _ in range(rng.choice((1, 1, 2, 3, 8, 20, 64)))]
+            if rng.random() < .6:
+                run = run[:63] + [words.ending(False)]
+            registers = values(rng)
+            block = translate(code_of(run))
+            demand(block, "refused:", code_of(run).hex())
+            slots, pc, count = processor.run(block, registers)
+            demand(count == len(run), "count", count, "of", code_of(run).hex())
+            led = list(run)
+            if spoil and k == number_of_runs // 2:
+                led[0] = 0x00000FB7 | 0x5A5A5 << 12  # LUI x31
+                registers[31] = 0
+            after, at = qemu.run(led, registers, count)
+            others = [(i, hex(a), hex(b)) for i, (a, b) in enumerate(zip(slots, after)) if a != b]
+            demand(not others, "registers after", code_of(run).hex(), others)
+            demand(pc == at, "pc after", code_of(run).hex(), hex(pc), hex(at))
+            steps += count
+    finally:
+        qemu.close()
+    print(f"qemu: {number_of_runs} blocks, {steps} single steps, registers and pc the same")
+
+
+def main():
+    parser = argparse.ArgumentParser(description=__doc__, formatter_class=argparse.RawDescriptionHelpFormatter)
+    parser.add_argument("--seed", type=int, default=1)
+    parser.add_argument("--blocks", type=int, default=1000, help="runs for objdump")
+    parser.add_argument("--runs", type=int, default=1000, help="runs for qemu")
+    parser.add_argument("--spoil", action="store_true", help="change one thing, which must be noticed")
+    options = parser.parse_args()
+    if not os.access(TRANSLATE, os.X_OK):
+        print("target/bin/translate is not there: `rt check translate` at the repository's root builds it")
+        return 2
+    parts = []
+    if shutil.which("objdump"):
+        parts.append(lambda: check_objdump(Words(random.Random(options.seed)), options.blocks, options.spoil))
+    else:
+        print("objdump: skipped, it is not installed (Debian: binutils)")
+    qemu = os.environ.get("QEMU_RISCV64") or shutil.which("qemu-riscv64")
+    if (platform.system(), platform.machine()) != ("Linux", "x86_64"):
+        print("qemu: skipped, blocks can be entered on x86-64 Linux only")
+    elif not qemu:
+        print("qemu: skipped, qemu-riscv64 is not installed (Debian: qemu-user)")
+    else:
+        parts.append(lambda: check_qemu(qemu, Words(random.Random(options.seed + 1)), options.runs, options.spoil))
+    failed = 0
+    for part in parts:
+        try:
+            part()
+        except Disagreement as disagreement:
+            failed += 1
+            print("DISAGREES:", disagreement)
+    if not parts:
+        return 2
+    return 1 if failed else 0
+
+
+if __name__ == "__main__":
+    sys.exit(main())

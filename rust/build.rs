@@ -1,0 +1,70 @@
+//! Builds the proved translator with `rt staticlib capi` at the repository's root and links it.
+//!
+//! EMUKO_CAPI_ARCHIVE names an archive that is already built; then `rt` is not needed.
+
+use std::env;
+use std::fs;
+use std::path::{Path, PathBuf};
+use std::process::{exit, Command};
+
+fn main() {
+    println!("cargo:rerun-if-changed=build.rs");
+    println!("cargo:rerun-if-changed=../crates");
+    println!("cargo:rerun-if-changed=../crates.txt");
+    println!("cargo:rerun-if-env-changed=EMUKO_CAPI_ARCHIVE");
+
+    let arch = env::var("CARGO_CFG_TARGET_ARCH").unwrap();
+    let os = env::var("CARGO_CFG_TARGET_OS").unwrap();
+    if arch != "x86_64" || os != "linux" {
+        stop(&format!(
+            "the archive holds code for x86-64 Linux, not for {arch} {os}"
+        ));
+    }
+
+    let archive = match env::var_os("EMUKO_CAPI_ARCHIVE") {
+        Some(path) => {
+            println!("cargo:rerun-if-changed={}", Path::new(&path).display());
+            PathBuf::from(path)
+        }
+        None => build(),
+    };
+
+    // A copy, so that a later `rt ci`, which empties target/, does not take the library away, and so that writing the archive
+    // does not by itself make cargo run this again.
+    let out = PathBuf::from(env::var_os("OUT_DIR").unwrap());
+    if let Err(error) = fs::copy(&archive, out.join("libcapi.a")) {
+        stop(&format!("cannot read {}: {error}", archive.display()));
+    }
+    println!("cargo:rustc-link-search=native={}", out.display());
+    println!("cargo:rustc-link-lib=static=capi");
+}
+
+/// Proves and compiles the crate capi; gives the archive.
+fn build() -> PathBuf {
+    let manifest = PathBuf::from(env::var_os("CARGO_MANIFEST_DIR").unwrap());
+    let root = manifest
+        .parent()
+        .expect("this folder stands in the repository");
+    let output = match Command::new("rt")
+        .args(["staticlib", "capi"])
+        .current_dir(root)
+        .output()
+    {
+        Ok(output) => output,
+        Err(error) => stop(&format!(
+            "cannot start `rt` ({error}). Put the Rattle kit's `rt` on the PATH, or set EMUKO_CAPI_ARCHIVE to a libcapi.a that \
+             `rt staticlib capi` has built"
+        )),
+    };
+    if !output.status.success() {
+        eprint!("{}", String::from_utf8_lossy(&output.stdout));
+        eprint!("{}", String::from_utf8_lossy(&output.stderr));
+        stop("`rt staticlib capi` failed; its output stands above");
+    }
+    root.join("target/staticlib/libcapi.a")
+}
+
+fn stop(message: &str) -> ! {
+    eprintln!("emuko-x64-blocks: {message}");
+    exit(1)
+}

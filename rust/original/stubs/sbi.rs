@@ -1,0 +1,2 @@
+// Stands for src/sbi.rs: hart.rs names the trait.
+pub trait Sbi {}

@@ -1,0 +1,196 @@
+//! Random requests: replies and every byte of the output against the original Rust.
+
+use crate::random::Random;
+use crate::requests::{self, Lent, Wanted};
+use crate::words;
+use emuko_original::{Answer, Original};
+use emuko_x64_blocks::{translate, Block, Refusal, Request, GREATEST_BLOCK};
+
+/// The original, and what a comparison needs again and again.
+pub struct Comparison {
+    original: Original,
+    bytes: Vec<u8>,
+    lent: Lent,
+}
+
+impl Comparison {
+    pub fn new(seed: u64) -> Self {
+        Comparison {
+            original: Original::new(),
+            bytes: Vec::new(),
+            lent: Lent::new(seed),
+        }
+    }
+
+    /// Asks both and compares; gives the reply.
+    pub fn reply(&mut self, request: &Request, output: usize) -> Result<Block, Refusal> {
+        let helpers = [request.helpers.halfword, request.helpers.memory];
+        let answer = self.original.translate(
+            request.start,
+            request.limit,
+            request.halfwords,
+            helpers,
+            &mut self.bytes,
+        );
+        let expected = match answer {
+            // Document 01 adds number 5 and tests it last.
+            Answer::Block(_) if output < GREATEST_BLOCK => Err(Refusal::OutputTooShort),
+            Answer::Block(count) => Ok(Block {
+                length: self.bytes.len(),
+                count,
+            }),
+            Answer::LimitZero => Err(Refusal::LimitZero),
+            Answer::OddStart(start) => Err(Refusal::OddStart(start)),
+            Answer::Missing(index) => Err(Refusal::MissingHalfword(index.try_into().unwrap())),
+            Answer::NotTaken(word) => Err(Refusal::NotTaken(word)),
+        };
+        let reply = translate(request, self.lent.lend(output));
+        assert_eq!(reply, expected, "{request:x?}, output {output}");
+        let written = match reply {
+            Ok(_) => &self.bytes[..],
+            Err(_) => &[],
+        };
+        assert!(
+            self.lent.holds(0, written),
+            "wrong bytes: {request:x?}, output {output}"
+        );
+        reply
+    }
+
+    fn wanted(&mut self, wanted: &Wanted) -> Result<Block, Refusal> {
+        let request = Request {
+            start: wanted.start,
+            limit: wanted.limit,
+            halfwords: &wanted.halfwords[wanted.skipped..],
+            helpers: wanted.helpers,
+        };
+        self.reply(&request, wanted.output)
+    }
+}
+
+/// How often each reply was seen, so that a generator which loses a kind is noticed.
+struct Seen {
+    counts: [u32; 65],
+    greatest: u32,
+    refusals: [u32; 6],
+    missing: [u32; 2],
+}
+
+impl Seen {
+    fn new() -> Self {
+        Seen {
+            counts: [0; 65],
+            greatest: 0,
+            refusals: [0; 6],
+            missing: [0; 2],
+        }
+    }
+
+    fn add(&mut self, reply: Result<Block, Refusal>) {
+        match reply {
+            Ok(block) => {
+                self.counts[block.count as usize] += 1;
+                self.greatest += (block.length == GREATEST_BLOCK) as u32;
+            }
+            Err(refusal) => {
+                self.refusals[refusal.number() as usize] += 1;
+                if let Refusal::MissingHalfword(index) = refusal {
+                    self.missing[index as usize] += 1;
+                }
+            }
+        }
+    }
+}
+
+fn random_requests(seed: u64, number: u32) {
+    let mut r = Random::new(seed);
+    let mut comparison = Comparison::new(seed);
+    let mut seen = Seen::new();
+    for _ in 0..number {
+        let wanted = requests::wanted(&mut r);
+        seen.add(comparison.wanted(&wanted));
+    }
+    assert!(seen.counts[1..].iter().all(|n| *n > 0), "{:?}", seen.counts);
+    assert!(seen.greatest > 100);
+    assert!(
+        seen.refusals[1..].iter().all(|n| *n > 1000),
+        "{:?}",
+        seen.refusals
+    );
+    assert!(seen.missing.iter().all(|n| *n > 100), "{:?}", seen.missing);
+}
+
+#[test]
+fn random_requests_first_seed() {
+    random_requests(1, 1_000_000);
+}
+
+#[test]
+fn random_requests_second_seed() {
+    random_requests(2, 1_000_000);
+}
+
+/// Every end at every count: n straight words, then each sort of end, under limits below, at and above what is there.
+#[test]
+fn every_end_at_every_count() {
+    let mut r = Random::new(3);
+    let mut comparison = Comparison::new(3);
+    let mut requests = 0;
+    for n in 0..=65 {
+        for end in 0..6 {
+            for limit in [n.max(1) - 1, n, n + 1, 64, 65] {
+                let mut run = Vec::new();
+                for _ in 0..n {
+                    run.extend(words::halves(words::straight(&mut r)));
+                }
+                match end {
+                    0 => run.extend(words::halves(words::ending(&mut r))),
+                    1 => run.extend(words::halves(words::memory(&mut r))),
+                    2 => run.push(words::halfword(&mut r)),
+                    3 => run.extend(words::halves(words::refused(&mut r))),
+                    4 => run.push(0x0093),
+                    _ => {}
+                }
+                let wanted = Wanted {
+                    start: requests::start(&mut r) & !1,
+                    limit,
+                    halfwords: run,
+                    skipped: 0,
+                    helpers: Default::default(),
+                    output: GREATEST_BLOCK,
+                };
+                let reply = comparison.wanted(&wanted);
+                // An end counts where a helper or a word takes it, and where the limit lets it be reached.
+                let taken = n + (end < 3) as u32;
+                match reply {
+                    Ok(block) => assert_eq!(block.count, taken.min(limit).min(64)),
+                    Err(refusal) => {
+                        assert!(limit == 0 || taken == 0, "{refusal}: {n} {end} {limit}")
+                    }
+                }
+                requests += 1;
+            }
+        }
+    }
+    assert_eq!(requests, 66 * 6 * 5);
+}
+
+/// Every length of the output below the greatest block is refused, and none above it, whatever the block's length.
+#[test]
+fn every_output_length() {
+    let mut comparison = Comparison::new(4);
+    let run = [0x0093, 0x0050];
+    let request = Request::new(0x8000_0000, &run);
+    for output in 0..GREATEST_BLOCK {
+        let reply = comparison.reply(&request, output);
+        assert_eq!(reply, Err(Refusal::OutputTooShort));
+    }
+    for output in GREATEST_BLOCK..GREATEST_BLOCK + 300 {
+        let reply = comparison.reply(&request, output);
+        let block = Block {
+            length: 88,
+            count: 1,
+        };
+        assert_eq!(reply, Ok(block));
+    }
+}

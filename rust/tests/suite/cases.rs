@@ -1,0 +1,290 @@
+//! Document 01's cases, one by one.
+
+use emuko_x64_blocks::{
+    place, translate, translate_to_vec, Block, Helpers, PlaceRefusal, Placed, Refusal, Request,
+    GREATEST_BLOCK, LEAST_BLOCK, MOST_STEPS,
+};
+
+const START: u64 = 0x8000_0000;
+const ADDI: [u16; 2] = [0x0093, 0x0050];
+const OPENING: [u8; 32] = [
+    0x53, 0x55, 0x41, 0x54, 0x41, 0x55, 0x41, 0x56, 0x41, 0x57, 0x48, 0x83, 0xEC, 0x08, 0x48, 0x89,
+    0xFB, 0x49, 0x89, 0xF4, 0x49, 0x89, 0xD5, 0x49, 0x89, 0xCE, 0x4D, 0x89, 0xC7, 0x4C, 0x89, 0xCD,
+];
+const CLOSING: [u8; 15] = [
+    0x48, 0x83, 0xC4, 0x08, 0x41, 0x5F, 0x41, 0x5E, 0x41, 0x5D, 0x41, 0x5C, 0x5D, 0x5B, 0xC3,
+];
+
+fn reply(start: u64, limit: u32, halfwords: &[u16]) -> Result<(Vec<u8>, u32), Refusal> {
+    let request = Request {
+        limit,
+        ..Request::new(start, halfwords)
+    };
+    let reply = translate_to_vec(&request);
+    if let Ok((bytes, _)) = &reply {
+        assert_eq!(bytes[..32], OPENING);
+        assert_eq!(bytes[bytes.len() - 15..], CLOSING);
+    }
+    reply
+}
+
+/// Length and count.
+fn size(halfwords: &[u16]) -> (usize, u32) {
+    let (bytes, count) = reply(START, 64, halfwords).unwrap();
+    (bytes.len(), count)
+}
+
+/// MOV of a number into RAX, ten bytes.
+fn rax(number: u64) -> Vec<u8> {
+    [&[0x48, 0xB8][..], &number.to_le_bytes()].concat()
+}
+
+fn refusal(halfwords: &[u16]) -> Refusal {
+    reply(START, 64, halfwords).unwrap_err()
+}
+
+#[test]
+fn limits() {
+    assert_eq!(reply(START + 1, 0, &ADDI), Err(Refusal::LimitZero));
+    let run = [0x91BB, 0x0020].repeat(70);
+    let sixty_four = reply(START, 64, &run);
+    assert_eq!(sixty_four.as_ref().unwrap().1, MOST_STEPS);
+    assert_eq!(reply(START, 65, &run), sixty_four);
+    assert_eq!(reply(START, u32::MAX, &run), sixty_four);
+    assert_eq!(reply(START, 63, &run).unwrap().1, 63);
+}
+
+#[test]
+fn odd_starts() {
+    assert_eq!(
+        reply(START + 1, 1, &ADDI),
+        Err(Refusal::OddStart(START + 1))
+    );
+    assert_eq!(reply(u64::MAX, 1, &[]), Err(Refusal::OddStart(u64::MAX)));
+}
+
+#[test]
+fn missing_halfwords() {
+    assert_eq!(refusal(&[]), Refusal::MissingHalfword(0));
+    assert_eq!(refusal(&[0x0093]), Refusal::MissingHalfword(1));
+    assert_eq!(size(&[0x0001]), (88, 1));
+    // After a first word a missing halfword ends the block.
+    assert_eq!(size(&[0x0093, 0x0050, 0x0093]), (88, 1));
+}
+
+#[test]
+fn jal_to_itself() {
+    let (bytes, count) = reply(START, 64, &[0x006F, 0x0000]).unwrap();
+    assert_eq!((bytes.len(), count), (67, 1));
+    assert_eq!(bytes[32..42], rax(START));
+    assert_eq!(LEAST_BLOCK, 67);
+}
+
+#[test]
+fn fence_at_the_end_of_addresses() {
+    let (bytes, count) = reply(0xFFFF_FFFF_FFFF_FFFC, 1, &[0x000F, 0x0000]).unwrap();
+    assert_eq!((bytes.len(), count), (67, 1));
+    assert_eq!(bytes[32..42], rax(0));
+}
+
+#[test]
+fn addi() {
+    let (bytes, count) = reply(START, 64, &ADDI).unwrap();
+    assert_eq!((bytes.len(), count), (88, 1));
+    let body = [
+        0x4C, 0x8B, 0x93, 0x00, 0x00, 0x00, 0x00, 0x49, 0x81, 0xC2, 0x05, 0x00, 0x00, 0x00, 0x4C,
+        0x89, 0x93, 0x08, 0x00, 0x00, 0x00, 0x48, 0xB8, 0x04, 0x00, 0x00, 0x80, 0x00, 0x00, 0x00,
+        0x00, 0x48, 0xBA, 0x01, 0x00, 0x00, 0x00, 0x00, 0x00, 0x00, 0x00,
+    ];
+    assert_eq!(bytes[32..73], body);
+    // ECALL behind it leaves the same block.
+    let with_ecall = reply(START, 64, &[0x0093, 0x0050, 0x0073, 0x0000]);
+    assert_eq!(with_ecall, Ok((bytes, 1)));
+}
+
+#[test]
+fn mulh() {
+    assert_eq!(size(&[0x0093, 0x0050, 0x91B3, 0x0220]), (102, 1));
+    assert_eq!(refusal(&[0x91B3, 0x0220]), Refusal::NotTaken(0x0220_91B3));
+}
+
+/// What refused words leave: 17 bytes for BRANCH, 14 for OP and OP_32, 7 for OP_IMM and OP_IMM_32, else none.
+#[test]
+fn left_by_refused_words() {
+    let behind_addi = |word: u32| {
+        let run = [ADDI, [word as u16, (word >> 16) as u16]].concat();
+        size(&run).0 - 88
+    };
+    assert_eq!(behind_addi(0x0000_2063), 17);
+    assert_eq!(behind_addi(0x0220_91B3), 14);
+    assert_eq!(behind_addi(0x0220_91BB), 14);
+    assert_eq!(behind_addi(0x8000_9093), 7);
+    assert_eq!(behind_addi(0x0200_909B), 7);
+    for word in [
+        0x0000_0073,
+        0x0000_200F,
+        0x0000_7083,
+        0x0000_4023,
+        0x0000_001F,
+    ] {
+        assert_eq!(behind_addi(word), 0, "{word:08x}");
+    }
+}
+
+#[test]
+fn compressed_behind_a_word() {
+    assert_eq!(size(&[0x0093, 0x0050, 0x0001]), (116, 2));
+}
+
+#[test]
+fn loads_and_stores() {
+    assert_eq!(size(&[0xB083, 0x0000]), (88, 1));
+    assert_eq!(refusal(&[0xF083, 0x0000]), Refusal::NotTaken(0x0000_F083));
+    assert_eq!(size(&[0x3023, 0x0000]), (88, 1));
+    assert_eq!(refusal(&[0x4023, 0x0000]), Refusal::NotTaken(0x0000_4023));
+}
+
+#[test]
+fn shifts() {
+    assert_eq!(size(&[0x9093, 0x03F0]), (85, 1));
+    assert_eq!(refusal(&[0x909B, 0x0200]), Refusal::NotTaken(0x0200_909B));
+}
+
+#[test]
+fn jalr_of_any_funct3() {
+    for funct3 in 0..8 {
+        assert_eq!(size(&[0x8067 | funct3 << 12, 0x0000]), (81, 1));
+    }
+}
+
+#[test]
+fn the_greatest_block() {
+    assert_eq!(size(&[0x91BB, 0x0020].repeat(64)), (GREATEST_BLOCK, 64));
+    assert_eq!(GREATEST_BLOCK, 2243);
+}
+
+#[test]
+fn short_outputs() {
+    let request = Request::new(START, &ADDI);
+    let mut out = [0x5A; GREATEST_BLOCK];
+    let reply = translate(&request, &mut out[..GREATEST_BLOCK - 1]);
+    assert_eq!(reply, Err(Refusal::OutputTooShort));
+    assert_eq!(translate(&request, &mut []), Err(Refusal::OutputTooShort));
+    assert_eq!(out, [0x5A; GREATEST_BLOCK]);
+    let block = translate(&request, &mut out).unwrap();
+    assert_eq!((block.length, block.count), (88, 1));
+    assert_eq!(*block.bytes(&out), out[..88]);
+    assert_eq!(out[88..], [0x5A; GREATEST_BLOCK - 88]);
+}
+
+/// The order of the tests: each request is refused for the first reason that holds of it.
+#[test]
+fn order_of_refusals() {
+    let mut out = [0; 1];
+    let mut first = |limit, start, halfwords: &[u16]| {
+        let request = Request {
+            limit,
+            ..Request::new(start, halfwords)
+        };
+        translate(&request, &mut out).unwrap_err().number()
+    };
+    assert_eq!(first(0, 1, &[]), 1);
+    assert_eq!(first(1, 1, &[]), 2);
+    assert_eq!(first(1, 0, &[]), 3);
+    assert_eq!(first(1, 0, &[0x0073]), 3);
+    assert_eq!(first(1, 0, &[0x0073, 0x0000]), 4);
+    assert_eq!(first(1, 0, &ADDI), 5);
+}
+
+/// A helper end in full: arguments, the pair's address, and the earlier count where it is not 0.
+#[test]
+fn helper_ends() {
+    let helpers = Helpers {
+        halfword: 0x0102_0304_0506_0708,
+        memory: 0x1112_1314_1516_1718,
+    };
+    let end = |instruction: u64, pc: u64, helper: u64, earlier: &[u8]| {
+        [
+            &[0x4C, 0x89, 0xE7, 0x4C, 0x89, 0xEE, 0x4C, 0x89, 0xF2][..],
+            &[0x48, 0xB9],
+            &instruction.to_le_bytes(),
+            &[0x49, 0xB8],
+            &pc.to_le_bytes(),
+            &[0x48, 0xB8],
+            &helper.to_le_bytes(),
+            &[0xFF, 0xD0],
+            earlier,
+            &CLOSING,
+        ]
+        .concat()
+    };
+    let bytes = |halfwords: &[u16]| {
+        let request = Request {
+            helpers,
+            ..Request::new(START, halfwords)
+        };
+        translate_to_vec(&request).unwrap().0
+    };
+    let halfword = end(0x0001, START, helpers.halfword, &[]);
+    assert_eq!(bytes(&[0x0001])[32..], halfword);
+    let load = end(0xFFF0_B083, START, helpers.memory, &[]);
+    assert_eq!(bytes(&[0xB083, 0xFFF0])[32..], load);
+    let earlier = [0x48, 0x81, 0xC2, 0x01, 0x00, 0x00, 0x00];
+    let store = end(0x0000_3023, START + 4, helpers.memory, &earlier);
+    assert_eq!(bytes(&[0x0093, 0x0050, 0x3023, 0x0000])[32 + 21..], store);
+}
+
+#[test]
+fn placing() {
+    assert_eq!(
+        place(&[7; 67], &mut [0; 75], 5),
+        Ok(Placed {
+            offset: 8,
+            mark: 75
+        })
+    );
+    assert_eq!(place(&[7; 67], &mut [0; 74], 5), Err(PlaceRefusal::Full));
+    assert_eq!(place(&[], &mut [0; 5], 5), Err(PlaceRefusal::Full));
+    assert_eq!(
+        place(&[], &mut [0; 8], 5),
+        Ok(Placed { offset: 8, mark: 8 })
+    );
+    assert_eq!(place(&[], &mut [], 0), Ok(Placed { offset: 0, mark: 0 }));
+    assert_eq!(place(&[], &mut [], 1), Err(PlaceRefusal::MarkBeyondStore));
+}
+
+#[test]
+fn numbers_and_texts() {
+    let refusals = [
+        Refusal::LimitZero,
+        Refusal::OddStart(3),
+        Refusal::MissingHalfword(1),
+        Refusal::NotTaken(0x73),
+        Refusal::OutputTooShort,
+    ];
+    let texts = [
+        "the limit is 0",
+        "the start, 0x3, is odd",
+        "the first instruction lacks halfword 1",
+        "the first word, 0x00000073, is not translated",
+        "the output has fewer than 2243 bytes",
+    ];
+    for (k, (refusal, text)) in refusals.iter().zip(texts).enumerate() {
+        assert_eq!(refusal.number() as usize, k + 1);
+        assert_eq!(refusal.to_string(), text);
+    }
+    assert_eq!(PlaceRefusal::MarkBeyondStore.number(), 6);
+    assert_eq!(PlaceRefusal::Full.number(), 7);
+    let error: Box<dyn std::error::Error> = Box::new(PlaceRefusal::Full);
+    assert_eq!(error.to_string(), "the store has no room for the code");
+}
+
+/// The bytes of an output that is longer than the block are the block's.
+#[test]
+fn bytes_of_a_block() {
+    let block = Block {
+        length: 3,
+        count: 1,
+    };
+    assert_eq!(*block.bytes(&[1, 2, 3, 4]), [1, 2, 3]);
+}
