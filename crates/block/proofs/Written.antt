@@ -6,11 +6,12 @@ use native.Mathlib.Nat.{zero-add}
 use native.Mathlib.Omega.{arith}
 use Rattle.agreement.specs.X86.Encode.{bytes}
 use Rattle.agreement.specs.Translation.Emit.{opening}
-use Rattle.agreement.specs.Translation.Walk.{walk, before, ending, instrs, End.goesOn, End.jumped, End.calls}
+use Rattle.agreement.specs.Translation.Walk.{walk, before, ending, instrs, counted, End.goesOn, End.jumped, End.calls}
 use Rattle.agreement.specs.Translation.Replies.{blockOf}
 use Rattle.agreement.proofs.Laws.Length.{sized}
 use Rattle.agreement.proofs.Laws.Length as Length
 use Rattle.emitter.specs.Written.{Wrote, Room}
+use Rattle.emitter.specs.declared.X64Emitter.{X64Emitter}
 use Rattle.agreement.specs.Translation.Walk as Translation
 use Rattle.words.specs.Word.{Word, Emits}
 use Rattle.words.specs.declared.Emitted.{Emitted}
@@ -52,6 +53,12 @@ room-to-close n pc hs k h o w = record {
   fits = rw (w .ends, sym (most-is (walk n pc hs .end)))
       (omega (arith, k, h .fits, o .place, o .size, w .wrote .place, w .wrote .size, sized n pc hs .high));
 }
+
+-- the last instructions were written, and the count is theirs
+pub closed : {l m : List ℕ} {a count : ℕ} {em : X64Emitter} {r : Compiled} (helper16 helperMem : ℕ) (e : Translation.End) (n : ℕ)
+    → Wrote l a (bytes (ending helper16 helperMem e n)) m (em .at) → count ≡ counted e n → (r .em ≡ em) × (r .count ≡ count)
+    → Closes l a helper16 helperMem e n m r
+closed helper16 helperMem e n w c k = record { counts = k .1 ∙ c; wrote = rw (k .0) w }
 
 -- opening, walk and end are the block
 pub compiled : {l m m′ m″ : List ℕ} {b : ℕ} {w : Walked} {r : Compiled} (helper16 helperMem : ℕ) (p : Translation.Walked)

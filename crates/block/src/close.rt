@@ -37,6 +37,12 @@ pub struct Compiled {
     pub count: u32,
 }
 
+fn with_count(em: X64Emitter, count: u32) -> Compiled
+    ensures { λ r. ⌜ (r .em ≡ em) × (r .count ≡ count) ⌝ }
+{
+    Compiled { em, count }
+}
+
 // A helper end is an instruction of its own, and counts.
 pub fn close(
     em: X64Emitter,
@@ -50,47 +56,21 @@ pub fn close(
     ensures { λ r. ⌜ Closes (now (out .entry)) (em .at) helper16 «helper_mem» (endAs end) emitted (now (out .exit)) r ⌝ }
 {
     match end {
-        End::GoesOn(pc) => {
-            let a = close_at(em, out, pc, emitted);
-            Compiled {
-                em: a,
-                count: emitted,
-            }
-        }
-        End::Jumped => {
-            let a = close_jumped(em, out, emitted);
-            Compiled {
-                em: a,
-                count: emitted,
-            }
-        }
+        End::GoesOn(pc) => with_count(close_at(em, out, pc, emitted), emitted),
+        End::Jumped => with_count(close_jumped(em, out, emitted), emitted),
         End::Helper16(instr, pc) => {
-            let a = words::emit_native_term_helper_x64(
-                em,
-                out,
-                instr as u64,
-                pc,
-                helper16,
-                emitted,
-            );
-            Compiled {
-                em: a,
-                count: emitted + 1,
-            }
+            let i = instr as u64;
+            with_count(
+                words::emit_native_term_helper_x64(em, out, i, pc, helper16, emitted),
+                emitted + 1,
+            )
         }
         End::HelperMem(instr, pc) => {
-            let a = words::emit_native_term_helper_x64(
-                em,
-                out,
-                instr as u64,
-                pc,
-                helper_mem,
-                emitted,
-            );
-            Compiled {
-                em: a,
-                count: emitted + 1,
-            }
+            let i = instr as u64;
+            with_count(
+                words::emit_native_term_helper_x64(em, out, i, pc, helper_mem, emitted),
+                emitted + 1,
+            )
         }
     }
 }
