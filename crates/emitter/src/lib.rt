@@ -227,7 +227,8 @@ impl X64Emitter {
         reg: u8,
         rm: u8,
     ) -> X64Emitter
-        requires { ⌜ (form < 42) × (opcodeOf form + plus < 256) × (reg < 16) × (rm < 16) × Room (now out) (self .at) (length (regRm0F form plus w reg rm)) ⌝ }
+        requires { ⌜ (form < 42) × (opcodeOf form + plus < 256) × (reg < 16) × (rm < 16)
+            × Room (now out) (self .at) (length (regRm0F form plus w reg rm)) ⌝ }
         ensures { λ r. ⌜ Wrote (now (out .entry)) (self .at) (regRm0F form plus w reg rm) (now (out .exit)) (r .at) ⌝ }
     {
         let a = self.emit_rex(out, w, reg, 0, rm);

@@ -7,7 +7,8 @@ use Rattle.block.proofs.walk.emit_words.Statement.{statement}
 use Rattle.block.proofs.walk.emit_words.Tie as tie
 
 abbrev Inv-loop : tie.InvT-loop
-Inv-loop out₀ halfwords start steps at₀ pc₀ k₀ emitted₀ out at pc k emitted = Walking steps start halfwords out₀ (at₀ .at) out (at .at) pc k emitted
+Inv-loop out₀ halfwords start steps at₀ pc₀ k₀ emitted₀ out at pc k emitted =
+    Walking steps start halfwords out₀ (at₀ .at) out (at .at) pc k emitted
 
 abbrev μ-loop : tie.MeasureT-loop
 μ-loop out₀ halfwords start steps at₀ pc₀ k₀ emitted₀ out at pc k emitted = steps - emitted
@@ -35,9 +36,9 @@ emit-words-spec =
     (λ c. search needs)
     (λ c.
     let fetching = c .before .before .before .before in
-    let looping = fetching .before .before in (
-      halved (looping .loop .inv) (fetching .before .loop-test .taken) (sym (c .before .before .fetched .given .1) ∙ fetching .fetch .ensures)
-          (c .stopped2 .ensures),
+    let looping = fetching .before .before in
+    let f = sym (c .before .before .fetched .given .1) ∙ fetching .fetch .ensures in (
+      halved (looping .loop .inv) (fetching .before .loop-test .taken) f (c .stopped2 .ensures),
       search needs,
     ))
     (λ c. search needs)

@@ -8,4 +8,12 @@ returns : tie.Need-returns
 returns c = rw halves (search writes)
 
 pub emit-u64-spec : {M : Type 1} → statement M
-emit-u64-spec = tie.close (tie.spec (λ c. search needs) (λ c κs. search needs) (λ c. search needs) (λ c κs. search needs) (λ c. search needs) returns)
+emit-u64-spec =
+    tie.close
+    (tie.spec
+    (λ c. search needs)
+    (λ c κs. search needs)
+    (λ c. search needs)
+    (λ c κs. search needs)
+    (λ c. search needs)
+    returns)

@@ -7,4 +7,12 @@ returns : tie.Need-returns
 returns c = search writes
 
 pub form-0f-reg-rm-spec : {M : Type 1} → statement M
-form-0f-reg-rm-spec = tie.close (tie.spec (λ c κs. omega rooms) (λ c κs. omega rooms) (λ c κs. omega rooms) (λ c κs. omega rooms) (λ c. search needs) returns)
+form-0f-reg-rm-spec =
+    tie.close
+    (tie.spec
+    (λ c κs. omega rooms)
+    (λ c κs. omega rooms)
+    (λ c κs. omega rooms)
+    (λ c κs. omega rooms)
+    (λ c. search needs)
+    returns)

@@ -7,4 +7,12 @@ returns : tie.Need-returns
 returns c = search writes
 
 pub form-digit-rm-imm8-spec : {M : Type 1} → statement M
-form-digit-rm-imm8-spec = tie.close (tie.spec (λ c κs. omega rooms) (λ c κs. omega rooms) (λ c κs. omega rooms) (λ c κs. omega rooms) (λ c. search needs) returns)
+form-digit-rm-imm8-spec =
+    tie.close
+    (tie.spec
+    (λ c κs. omega rooms)
+    (λ c κs. omega rooms)
+    (λ c κs. omega rooms)
+    (λ c κs. omega rooms)
+    (λ c. search needs)
+    returns)
