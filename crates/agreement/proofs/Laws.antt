@@ -2,8 +2,10 @@ pub mod Tests
 pub mod Width
 pub mod Compare
 pub mod Fields
+pub mod Matches
 pub mod Immediates
 pub mod Naming
+pub mod Needed
 pub mod Leftover
 pub mod Length
 pub mod Output

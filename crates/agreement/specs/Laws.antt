@@ -4,14 +4,14 @@ use mathlib.Core.Bool.{cond}
 use mathlib.Core.List.{List, _++_}
 use mathlib.Core.Logic.{_≢_}
 use mathlib.Core.Option.{some}
-use Prim.Native.Nat.{ℕ, suc, _+_, _%_, _^_, _≤_, _<_}
+use Prim.Native.Nat.{ℕ, zero, suc, min, _+_, _%_, _^_, _≤_, _<_}
 use lib.ListN.{length, take, drop}
 use lib.Dec.{ltb, eqb}
 use lib.Signed.{ltZ}
-use Rattle.agreement.specs.Common.{greatest}
+use Rattle.agreement.specs.Common.{greatest, mostSteps, Helper.forAccess}
 use Rattle.agreement.specs.Riscv.Fields.{opcode, funct3}
 use Rattle.agreement.specs.Riscv.Immediates as Manual
-use Rattle.agreement.specs.Riscv.Instruction.{Instruction.JALR, Instruction.other, signed, shiftRightArithmetic, named}
+use Rattle.agreement.specs.Riscv.Instruction.{Instruction, Instruction.JALR, Instruction.other, signed, shiftRightArithmetic, named}
 use Rattle.agreement.specs.Riscv.Run.{chosen, taken}
 use Rattle.agreement.specs.X86.Form.{Instr, Ok, Shift.sar, Cc.B, Cc.E, Cc.L}
 use Rattle.agreement.specs.X86.Encode.{encode}
@@ -20,8 +20,10 @@ use Rattle.agreement.specs.X86.State.{Flags, State, Permissions}
 use Rattle.agreement.specs.X86.Step.{steps, Goes}
 use Rattle.agreement.specs.X86.Flags.{sext, subFlags, holds, shifted}
 use Rattle.agreement.specs.Translation.Decode32 as Decode32
-use Rattle.agreement.specs.Translation.Kind.{kind}
-use Rattle.agreement.specs.Translation.Replies.{Block, Reply.block, outputAfter, translate}
+use Rattle.agreement.specs.Translation.Kind.{kind, kindNumber}
+use Rattle.agreement.specs.Translation.Needed.{needed}
+use Rattle.agreement.specs.Translation.Walk.{Walked, emit, before, jumps, helps, refusedAt}
+use Rattle.agreement.specs.Translation.Replies.{Block, Reply.block, First.begins, First.refuses, firstWord, outputAfter, translate}
 
 -- What the encoder writes decodes to that instruction, whatever follows; what decodes is byte for byte so written.
 
@@ -45,6 +47,33 @@ pub record NamedAlike (w : ℕ) : Type 0 where
 
 unfoldable pub NamesAlike : Type 0
 NamesAlike = (w : ℕ) → NamedAlike w
+
+-- What the number of a word's kind says: how the walk goes on from the word, and whether a block can begin with it.
+
+pub record GoesOn (k : Instruction) (pc w : ℕ) : Type 0 where
+  pub code : List Instr
+  pub on : (p : Walked) → emit k pc w p ≡ before code p
+
+pub record Ends (k : Instruction) (pc w : ℕ) : Type 0 where
+  pub code : List Instr
+  pub ends : (p : Walked) → emit k pc w p ≡ jumps code
+
+unfoldable pub WalksBy : ℕ → Instruction → ℕ → ℕ → Type 0
+WalksBy zero k pc w = (p : Walked) → emit k pc w p ≡ refusedAt pc w
+WalksBy (suc zero) k pc w = GoesOn k pc w
+WalksBy (suc (suc zero)) k pc w = Ends k pc w
+WalksBy (suc (suc (suc n))) k pc w = (p : Walked) → emit k pc w p ≡ helps forAccess w pc
+
+unfoldable pub KindsWalk : Type 0
+KindsWalk = (k : Instruction) (pc w : ℕ)
+    → WalksBy (kindNumber k) k pc w × (firstWord k w ≡ cond (eqb (kindNumber k) 0) (refuses w) begins)
+
+-- A run that was fetched no further than `needed` is translated as the whole run is.
+
+unfoldable pub NeedsNoMore : Type 0
+NeedsNoMore = (start limit : ℕ) (hs : List ℕ) (helper16 helperMem room : ℕ)
+    → translate start limit (needed (min limit mostSteps) hs) helper16 helperMem room
+    ≡ translate start limit hs helper16 helperMem room
 
 -- The immediates: decode.rs and the manual give one number for every 32-bit word.
 

@@ -1,5 +1,6 @@
 pub mod Fetching
 pub mod Stepping
+pub mod Beginning
 pub mod Written
 pub mod Looping
 pub mod Replying

@@ -1,7 +1,7 @@
--- A step of the walk (crate agreement, Translation/Walk) by what stands at the front of the run, and the test of the first word.
+-- A step of the walk (crate agreement, Translation/Walk) by what stands at the front of the run.
 use mathlib.Core.Path.{_≡_, refl, sym, ap, _∙_, subst}
 use mathlib.Core.Logic.{_≢_}
-use mathlib.Core.Bool.{Bool, true, false, cond, not}
+use mathlib.Core.Bool.{Bool, true, false, cond}
 use mathlib.Core.List.{List, [], _∷_}
 use Prim.Native.Nat.{ℕ, zero, suc, _+_, _-_, _≤_}
 use native.Mathlib.Omega.{arith}
@@ -16,14 +16,12 @@ use Rattle.agreement.specs.X86.Encode.{bytes}
 use Rattle.agreement.specs.Translation.Decode32.{wordOf, rd, rs1, rs2, imm32, shamt, shamtW, immU, wrappingAdd}
 use Rattle.agreement.specs.Translation.Kind.{kind}
 use Rattle.agreement.specs.Translation.Walk.{Walked, walk, emit, stopsAt, helps}
-use Rattle.agreement.specs.Translation.Replies.{First, First.begins, First.lacks, First.refuses, first, firstWord}
 use Rattle.agreement.proofs.Laws.Length.{len-op, len-imm, len-const}
-use Rattle.words.specs.Word.{wordAs, isAccess, refusedEnd}
+use Rattle.words.specs.Word.{wordAs, refusedEnd}
 use Rattle.words.specs.declared.X64EmitFlow.{X64EmitFlow}
 use Rattle.words.specs.declared.X64EmitFlow.the-variants.{Continue, Terminate, Refused}
 use Rattle.words.proofs.Walking.{byFlow, walks-on}
 use Rattle.block.specs.Fetch.{fetched}
-use Rattle.block.specs.First.{isRefused}
 use Rattle.block.specs.declared.fetch.Fetched.{Fetched}
 use Rattle.block.specs.declared.fetch.Fetched.the-variants.{Missing, Half, Word}
 
@@ -110,69 +108,3 @@ straight-short JALR pc w e = absurd (ends-not e)
 straight-short (access a) pc w e = absurd (refused-not e)
 straight-short (unmodelled u) pc w e = absurd (refused-not e)
 straight-short other pc w e = absurd (refused-not e)
-
--- 3. The first word
-
-abbrev byFetchedFirst : Fetched → First
-byFetchedFirst (Missing i) = lacks i
-byFetchedFirst (Half h) = begins
-byFetchedFirst (Word w) = cond (isRefused (kind w)) (refuses w) begins
-
-first-word : (k : Instruction) (w : ℕ) → firstWord k w ≡ cond (isRefused k) (refuses w) begins
-unfolding firstWord
-first-word (op o) w = refl
-first-word (opImm o) w = refl
-first-word (branch c) w = refl
-first-word (access a) w = refl
-first-word (unmodelled u) w = refl
-first-word LUI w = refl
-first-word AUIPC w = refl
-first-word JAL w = refl
-first-word JALR w = refl
-first-word FENCE w = refl
-first-word FENCE·I w = refl
-first-word other w = refl
-
--- the flow, and for a refused word the test of loads and stores, say whether the word is not taken
-abbrev refusedBy : X64EmitFlow → Bool → Bool
-refusedBy Continue b = false
-refusedBy Terminate b = false
-refusedBy Refused b = not b
-
-refused-flow : (k : Instruction) (pc w : ℕ) → refusedBy (wordAs k pc w .flow) (isAccess k) ≡ isRefused k
-refused-flow (op o) pc w = refl
-refused-flow (opImm o) pc w = refl
-refused-flow (branch c) pc w = refl
-refused-flow (access a) pc w = refl
-refused-flow (unmodelled u) pc w = refl
-refused-flow LUI pc w = refl
-refused-flow AUIPC pc w = refl
-refused-flow JAL pc w = refl
-refused-flow JALR pc w = refl
-refused-flow FENCE pc w = refl
-refused-flow FENCE·I pc w = refl
-refused-flow other pc w = refl
-
-pub refused-by : (k : Instruction) (pc w : ℕ) {f : X64EmitFlow} → wordAs k pc w .flow ≡ f → refusedBy f (isAccess k) ≡ isRefused k
-refused-by k pc w e = ap (λ (f : X64EmitFlow). refusedBy f (isAccess k)) (sym e) ∙ refused-flow k pc w
-
-pub first-is : (hs : List ℕ) {f : Fetched} → f ≡ fetched hs → byFetchedFirst f ≡ first hs
-unfolding first
-first-is [] e = ap byFetchedFirst e
-first-is (h ∷ []) e = ap byFetchedFirst e ∙ go (eqb (bitAnd h 0x3) 0x3)
-  where
-    go : (t : Bool) → byFetchedFirst (cond t (Missing 1) (Half h)) ≡ elim t [ true ↦ lacks 1 | false ↦ begins ]
-    go true = refl
-    go false = refl
-first-is (h ∷ u ∷ hs) e = ap byFetchedFirst e ∙ go (eqb (bitAnd h 0x3) 0x3)
-  where
-    w : ℕ
-    w = wordOf h u
-
-    go : (t : Bool) → byFetchedFirst (cond t (Word w) (Half h)) ≡ elim t [ true ↦ firstWord (kind w) w | false ↦ begins ]
-    go true = sym (first-word (kind w) w)
-    go false = refl
-
-pub word-first : (w : ℕ) {f : First} {t : Bool}
-    → isRefused (kind w) ≡ t → cond (isRefused (kind w)) (refuses w) begins ≡ f → cond t (refuses w) begins ≡ f
-word-first w e h = ap (λ (b : Bool). cond b (refuses w) begins) (sym e) ∙ h

@@ -2,13 +2,15 @@
 use crate::close::End;
 use crate::fetch::Fetched;
 use emitter::X64Emitter;
+use kind::WordKind;
 use words::X64EmitFlow;
 ghost use mathlib.Core.Path.{_≡_};
 ghost use Prim.Native.Nat.{_+_, _*_, _≤_};
 ghost use Rattle.agreement.specs.Translation.Walk.{walk};
 ghost use Rattle.agreement.specs.Translation.Kind.{kind};
 ghost use Rattle.emitter.specs.Written.{Room};
-ghost use Rattle.words.specs.Word.{refusedEnd};
+ghost use Rattle.kind.specs.Numbered.{numberOf};
+ghost use Rattle.words.specs.Word.{endBy, refusedEnd};
 ghost use Rattle.block.specs.Walks.{Walks, endAs};
 
 // The place behind the words, how many they are, and how the block ends.
@@ -25,23 +27,23 @@ fn stopped(em: X64Emitter, emitted: u32, end: End) -> Walked
     Walked { em, emitted, end }
 }
 
-// A word that the emitter refused leaves its bytes and counts nothing. It is a load or store for the helper, or the block goes on at
-// its pc.
+// At a load or store the memory helper ends the block; at any other word that the emitter refused, the block goes on.
+fn end_by_kind(what: WordKind, instr: u32, pc: u64) -> End
+    ensures { λ r. ⌜ endAs r ≡ endBy (numberOf what) pc instr ⌝ }
+{
+    match what {
+        WordKind::MemoryHelper => End::HelperMem(instr, pc),
+        WordKind::NotTaken => End::GoesOn(pc),
+        WordKind::Straight => End::GoesOn(pc),
+        WordKind::Ending => End::GoesOn(pc),
+    }
+}
+
+// A word that the emitter refused leaves its bytes and counts nothing.
 fn refused(em: X64Emitter, pc: u64, emitted: u32, instr: u32) -> Walked
     ensures { λ r. ⌜ (r .em ≡ em) × (r .emitted ≡ emitted) × (endAs (r .end) ≡ refusedEnd (kind instr) pc instr) ⌝ }
 {
-    if words::is_load_or_store(instr) {
-        return Walked {
-            em,
-            emitted,
-            end: End::HelperMem(instr, pc),
-        };
-    }
-    Walked {
-        em,
-        emitted,
-        end: End::GoesOn(pc),
-    }
+    stopped(em, emitted, end_by_kind(kind::word_kind(instr), instr, pc))
 }
 
 // The words of the run, from its first one at `start` on, `steps` of them at most.

@@ -1,6 +1,8 @@
 // The translator as functions for Rust and C: slices as pointer and length, replies as document 01's numbers.
 ghost use mathlib.Core.Path.{_≡_};
+ghost use Rattle.agreement.specs.Translation.Kind.{kind, kindNumber};
 ghost use Rattle.block.specs.Answers as Answers;
+ghost use Rattle.kind.specs.Numbered as Numbered;
 ghost use Rattle.store.specs.Places as Places;
 ghost use Rattle.capi.specs.Replies.{padded, Replies, RepliesToPlacing};
 
@@ -69,4 +71,24 @@ pub extern "C" fn emuko_place(code: &[u8], store: &mut [u8], used: usize) -> Rep
 {
     let placing = store::place(code, store, used);
     reply_to_placing(placing)
+}
+
+fn number_of_kind(what: kind::WordKind) -> u32
+    ensures { λ r. ⌜ r ≡ Numbered.numberOf what ⌝ }
+{
+    match what {
+        kind::WordKind::NotTaken => 0,
+        kind::WordKind::Straight => 1,
+        kind::WordKind::Ending => 2,
+        kind::WordKind::MemoryHelper => 3,
+    }
+}
+
+// What becomes of a word: 0 it is not taken, 1 the block goes on behind it, 2 it ends the block, 3 the memory helper does. A caller
+// that fetches a run halfword by halfword needs none behind a word that is not 1 (`needs-no-more`, crate agreement).
+#[no_mangle]
+pub extern "C" fn emuko_word_kind(instr: u32) -> u32
+    ensures { λ r. ⌜ r ≡ kindNumber (kind instr) ⌝ }
+{
+    number_of_kind(kind::word_kind(instr))
 }

@@ -56,30 +56,6 @@ pub const F3_BLTU: u8 = 0b110;
 
 pub const F3_BGEU: u8 = 0b111;
 
-// funct3 of LOAD
-pub const F3_LB: u8 = 0b000;
-
-pub const F3_LH: u8 = 0b001;
-
-pub const F3_LW: u8 = 0b010;
-
-pub const F3_LD: u8 = 0b011;
-
-pub const F3_LBU: u8 = 0b100;
-
-pub const F3_LHU: u8 = 0b101;
-
-pub const F3_LWU: u8 = 0b110;
-
-// funct3 of STORE
-pub const F3_SB: u8 = 0b000;
-
-pub const F3_SH: u8 = 0b001;
-
-pub const F3_SW: u8 = 0b010;
-
-pub const F3_SD: u8 = 0b011;
-
 // funct3 of MISC-MEM
 pub const F3_FENCE: u8 = 0b000;
 

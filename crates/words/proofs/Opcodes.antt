@@ -7,7 +7,7 @@ use Prim.Native.Nat.{ℕ, _/_, _%_, _^_, _<_}
 use native.Mathlib.Omega.{arith}
 use borrow.Author.Tests.{ne-eqb}
 use lib.Dec.{eqb}
-use lib.Pow.{field, mod-mod-pow, shr-shr}
+use lib.Pow.{mod-mod-pow}
 use Rattle.decode.specs.Decoded.{decoded}
 use Rattle.agreement.specs.Riscv.Fields.{opcode, rd, funct3, rs1, rs2, funct7, funct6, bits, shamt5, shamt6}
 use Rattle.agreement.specs.Riscv.Immediates as Manual
@@ -17,9 +17,9 @@ use Rattle.agreement.specs.Translation.Emit.{loadReg, compare, leftover}
 use Rattle.agreement.specs.Translation.Kind.{match, kind, kindOf}
 use Rattle.agreement.specs.Translation.Decode32.{wrappingAdd}
 use Rattle.agreement.specs.Translation.Decode32 as Decode32
-use Rattle.agreement.proofs.Laws.Fields.{opcode-is, funct3-is, funct7-is, funct6-is, rd-is, rs1-is, rs2-is, shamt5-is, shamt6-is}
+use Rattle.agreement.proofs.Laws.Fields.{opcode-is, funct6-of, rd-is, rs1-is, rs2-is, shamt5-is, shamt6-is}
 use Rattle.agreement.proofs.Laws.Immediates.{immI-is, immB-is, immU-is, immJ-is}
-use Rattle.words.proofs.Matches.{decide}
+use Rattle.agreement.proofs.Laws.Matches.{decide, kind-is}
 use Rattle.words.proofs.Families.{each-op, each-op-32, each-op-imm, each-op-imm-32, each-branch, each-fence, each-load, each-store}
 use Rattle.words.specs.Word.{Small, wordAs, wordBy, refused, opBody, opImmBody, branchBody, fenceWord, loadPair, finished, behind}
 
@@ -55,11 +55,6 @@ branch-taken pc w c = rw (rs1-is w, rs2-is w, immB-is w) refl
 abbrev AccessIs : ℕ → ℕ → Instruction → Type 0
 AccessIs pc w k = refused [] ≡ wordAs k pc w
 
--- the kind by the manual's fields
-kind-is : (w : ℕ) → kind w ≡ kindOf (opcode w) (funct3 w) (funct7 w) (funct6 w)
-unfolding kind
-kind-is w = rw (opcode-is w, funct3-is w, funct7-is w, funct6-is w) refl
-
 -- what a word that is not taken leaves, by its opcode
 left : (pc w o : ℕ) → opcode w ≡ o → refused (leftover o (rs1 w) (rs2 w)) ≡ wordAs other pc w
 left pc w o e = rw (opcode-is w, e, rs1-is w, rs2-is w) refl
@@ -91,8 +86,7 @@ at-branch pc w e = rw (kind-is w, e) (each-branch (BranchIs pc w) (branch-taken 
 at-op-imm : (pc w : ℕ) → w < 2 ^ 32 → opcode w ≡ 0x13 → WordIs pc w
 unfolding kindOf match leftover
 at-op-imm pc w h e =
-    let t : bits 31 20 w / 64 ≡ funct6 w = field (w / 2 ^ 20) 6 6 ∙ rw (shr-shr w 20 6) refl in
-    rw (kind-is w, e, t) (each-op-imm (ImmIs pc w) (imm-taken pc w h) (left pc w 0x13 e) (funct3 w) (funct6 w))
+    rw (kind-is w, e, funct6-of w) (each-op-imm (ImmIs pc w) (imm-taken pc w h) (left pc w 0x13 e) (funct3 w) (funct6 w))
 
 at-op-imm-32 : (pc w : ℕ) → w < 2 ^ 32 → opcode w ≡ 0x1B → WordIs pc w
 unfolding kindOf match leftover

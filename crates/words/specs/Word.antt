@@ -2,7 +2,7 @@
 -- how the block goes on behind them.
 use mathlib.Core.Path.{_≡_}
 use mathlib.Core.List.{List, [], _∷_, _++_}
-use mathlib.Core.Bool.{Bool, true, false, cond}
+use mathlib.Core.Bool.{cond}
 use Prim.Native.Nat.{ℕ, _-_, _*_, _/_, _%_, _^_, _<_}
 use lib.Dec.{eqb}
 use Rattle.agreement.specs.Common.{Helper.forAccess}
@@ -12,7 +12,7 @@ use Rattle.agreement.specs.X86.Encode.{bytes}
 use Rattle.agreement.specs.Translation.Decode32.{opcode, rd, rs1, rs2, imm32, shamt, shamtW, immU, immB, immJ, wrappingAdd}
 use Rattle.agreement.specs.Translation.Emit.{closing, passes, addCount, bodyOp, bodyOpImm, codeOp, codeOpImm, codeConst, codeJal, codeJalr, codeBranch, ccFor, compare, loadReg, storeReg, leftover}
 use Rattle.agreement.specs.Translation.Walk.{End, End.calls}
-use Rattle.agreement.specs.Translation.Kind.{kindOp, kindOp32, kindOpImm, kindOpImm32, kindBranch, kindFence}
+use Rattle.agreement.specs.Translation.Kind.{kindNumber, kindOp, kindOp32, kindOpImm, kindOpImm32, kindBranch, kindFence}
 use Rattle.agreement.specs.Riscv.Immediates as Manual
 use Rattle.decode.specs.declared.Decoded32.{Decoded32}
 use Rattle.emitter.specs.declared.X64Emitter.{X64Emitter}
@@ -49,24 +49,12 @@ wordAs (access a) pc w = refused []
 wordAs (unmodelled u) pc w = refused (leftover (opcode w) (rs1 w) (rs2 w))
 wordAs other pc w = refused (leftover (opcode w) (rs1 w) (rs2 w))
 
--- a load or store, which goes to the helper: the Rust tries `emit_native_term_mem_helper_x64` behind a refused word
-abbrev pub isAccess : Instruction → Bool
-isAccess (access a) = true
-isAccess (op o) = false
-isAccess (opImm o) = false
-isAccess (branch c) = false
-isAccess (unmodelled u) = false
-isAccess LUI = false
-isAccess AUIPC = false
-isAccess JAL = false
-isAccess JALR = false
-isAccess FENCE = false
-isAccess FENCE·I = false
-isAccess other = false
+-- how a block ends at a word that the emitter refused, by the number of its kind: the Rust tries `emit_native_term_mem_helper_x64`
+abbrev pub endBy : ℕ → ℕ → ℕ → End
+endBy n pc w = cond (eqb n 3) (calls forAccess w pc) (End.goesOn pc)
 
--- how a block ends at a word that the emitter refused
 abbrev pub refusedEnd : Instruction → ℕ → ℕ → End
-refusedEnd k pc w = cond (isAccess k) (calls forAccess w pc) (End.goesOn pc)
+refusedEnd k pc w = endBy (kindNumber k) pc w
 
 -- the answer of a word: how the block goes on, and the emitter behind what was written
 pub record Answers (f : X64EmitFlow) (em : X64Emitter) (e : Emitted) : Type 0 where

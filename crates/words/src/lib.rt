@@ -20,7 +20,7 @@ ghost use Rattle.agreement.specs.Riscv.Immediates.{immI};
 ghost use Rattle.agreement.specs.Translation.Kind.{kind, kindFence};
 ghost use Rattle.emitter.specs.Written.{Room};
 ghost use Rattle.words.specs.declared.X64EmitFlow.the-variants.{Continue, Terminate, Refused};
-ghost use Rattle.words.specs.Word.{Answers, Emits, wordAs, isAccess, fenceWord, Small, wordBy};
+ghost use Rattle.words.specs.Word.{Answers, Emits, wordAs, fenceWord, Small, wordBy};
 
 pub enum X64EmitFlow {
     Continue,
@@ -124,17 +124,4 @@ pub fn emit_native_instr_x64(em: X64Emitter, out: &mut [u8], pc: u64, instr: u32
 {
     let d = decode::decode32(instr);
     emit_by_opcode(em, out, pc, instr, d)
-}
-
-// The loads and stores that go to the helper: the test in the Rust's `emit_native_term_mem_helper_x64`.
-pub fn is_load_or_store(instr: u32) -> bool
-    ensures { λ r. ⌜ r ≡ isAccess (kind instr) ⌝ }
-{
-    let d = decode::decode32(instr);
-    let opcode = d.opcode;
-    match opcode {
-        isa::OPCODE_LOAD => d.funct3 <= isa::F3_LWU,
-        isa::OPCODE_STORE => d.funct3 <= isa::F3_SD,
-        _ => false,
-    }
 }

@@ -1,12 +1,12 @@
 -- The fields that decode.rs takes by shift and mask are the manual's.
-use mathlib.Core.Path.{_∙_, _≡_}
+use mathlib.Core.Path.{_∙_, _≡_, refl}
 use Prim.Native.Nat.{_%_, _/_, _<_, _^_, ℕ}
 use native.Mathlib.Nat.{mod-mod}
 use native.Mathlib.Omega.{arith}
 use lib.Bits.{and-mask, bitAnd, or-shifted}
 use lib.Dec.{eqb}
 use lib.Pow.{field, mod-mod-pow, shr-shr}
-use Rattle.agreement.specs.Riscv.Fields.{funct3, funct6, funct7, opcode, rd, rs1, rs2, shamt5, shamt6}
+use Rattle.agreement.specs.Riscv.Fields.{bits, funct3, funct6, funct7, opcode, rd, rs1, rs2, shamt5, shamt6}
 use Rattle.agreement.specs.Riscv.Run.{isLong, wordOf}
 use Rattle.agreement.specs.Translation.Decode32 as Decode32
 
@@ -42,6 +42,14 @@ pub funct6-is : (w : ℕ) → Decode32.immHi w ≡ funct6 w
 unfolding Decode32.immHi
 funct6-is w = rw (imm12-is w) (and-mask (w / 2 ^ 20 % 2 ^ 12 / 2 ^ 6) 6
     ∙ rw (field (w / 2 ^ 20) 6 6, shr-shr w 20 6) (mod-mod (w / 2 ^ 26) (2 ^ 6)))
+
+-- the same out of the manual's bits 31 to 20
+pub funct6-of : (w : ℕ) → bits 31 20 w / 64 ≡ funct6 w
+funct6-of w = field (w / 2 ^ 20) 6 6 ∙ rw (shr-shr w 20 6) refl
+
+-- and out of funct7
+pub funct6-in-funct7 : (w : ℕ) → funct7 w / 2 ≡ funct6 w
+funct6-in-funct7 w = field (w / 2 ^ 25) 6 1 ∙ rw (shr-shr w 25 1) refl
 
 pub shamt6-is : (w : ℕ) → Decode32.shamt w ≡ shamt6 w
 unfolding Decode32.shamt

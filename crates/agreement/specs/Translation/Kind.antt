@@ -4,7 +4,7 @@ use mathlib.Core.Bool.{cond}
 use mathlib.Core.List.{List, [], _∷_}
 use Prim.Native.Nat.{ℕ}
 use lib.Dec.{eqb}
-use Rattle.agreement.specs.Riscv.Instruction.{Op.ADD, Op.SUB, Op.SLT, Op.SLTU, Op.XOR, Op.OR, Op.AND, Op.SLL, Op.SRL, Op.SRA, Op.MUL, Op.ADDW, Op.SUBW, Op.SLLW, Op.SRLW, Op.SRAW, Op.MULW, OpImm.ADDI, OpImm.SLTI, OpImm.SLTIU, OpImm.XORI, OpImm.ORI, OpImm.ANDI, OpImm.SLLI, OpImm.SRLI, OpImm.SRAI, OpImm.ADDIW, OpImm.SLLIW, OpImm.SRLIW, OpImm.SRAIW, Branch.BEQ, Branch.BNE, Branch.BLT, Branch.BGE, Branch.BLTU, Branch.BGEU, Access.LB, Access.LH, Access.LW, Access.LD, Access.LBU, Access.LHU, Access.LWU, Access.SB, Access.SH, Access.SW, Access.SD, Instruction, Instruction.op, Instruction.opImm, Instruction.branch, Instruction.access, Instruction.LUI, Instruction.AUIPC, Instruction.JAL, Instruction.JALR, Instruction.FENCE, Instruction.FENCE·I, Instruction.other}
+use Rattle.agreement.specs.Riscv.Instruction.{Op.ADD, Op.SUB, Op.SLT, Op.SLTU, Op.XOR, Op.OR, Op.AND, Op.SLL, Op.SRL, Op.SRA, Op.MUL, Op.ADDW, Op.SUBW, Op.SLLW, Op.SRLW, Op.SRAW, Op.MULW, OpImm.ADDI, OpImm.SLTI, OpImm.SLTIU, OpImm.XORI, OpImm.ORI, OpImm.ANDI, OpImm.SLLI, OpImm.SRLI, OpImm.SRAI, OpImm.ADDIW, OpImm.SLLIW, OpImm.SRLIW, OpImm.SRAIW, Branch.BEQ, Branch.BNE, Branch.BLT, Branch.BGE, Branch.BLTU, Branch.BGEU, Access.LB, Access.LH, Access.LW, Access.LD, Access.LBU, Access.LHU, Access.LWU, Access.SB, Access.SH, Access.SW, Access.SD, Instruction, Instruction.op, Instruction.opImm, Instruction.branch, Instruction.access, Instruction.unmodelled, Instruction.LUI, Instruction.AUIPC, Instruction.JAL, Instruction.JALR, Instruction.FENCE, Instruction.FENCE·I, Instruction.other}
 use Rattle.agreement.specs.Translation.Decode32.{opcode, funct3, funct7, immHi}
 
 -- an arm `pattern => value` of a match on a number
@@ -73,3 +73,19 @@ kindOf o f s t = match o (
 
 unfoldable pub kind : ℕ → Instruction
 kind w = kindOf (opcode w) (funct3 w) (funct7 w) (immHi w)
+
+-- what becomes of the word (document 01, "Words taken"), numbered as document 02 does at Q-9: 0 it is not taken, 1 the block goes on
+-- behind it, 2 it ends the block, 3 it is a load or store, and the memory helper ends the block
+abbrev pub kindNumber : Instruction → ℕ
+kindNumber (unmodelled u) = 0
+kindNumber other = 0
+kindNumber (op o) = 1
+kindNumber (opImm o) = 1
+kindNumber LUI = 1
+kindNumber AUIPC = 1
+kindNumber FENCE = 1
+kindNumber FENCE·I = 1
+kindNumber (branch c) = 2
+kindNumber JAL = 2
+kindNumber JALR = 2
+kindNumber (access a) = 3

@@ -1,6 +1,6 @@
 use mathlib.Core.Path.{sym, _∙_}
 use borrow.Author.Needs.{needs}
-use Rattle.block.proofs.Stepping.{first-is, word-first}
+use Rattle.block.proofs.Beginning.{first-is, word-first}
 use Rattle.block.proofs.first.first_word.Statement.{statement}
 use Rattle.block.proofs.first.first_word.Tie as tie
 
@@ -12,13 +12,10 @@ returns-2 c = first-is _ (sym (c .enum-told .given .1) ∙ c .before .before .fe
 
 returns-3 : tie.Need-returns-3
 returns-3 c =
-    word-first (c .before .before .before .fetched2 .given .0 .0) (sym (c .before .is-refused .ensures) ∙ c .if1 .taken)
-    (first-is _ (sym (c .before .before .before .fetched2 .given .1) ∙ c .before .before .before .before .before .fetch .ensures))
-
-returns-4 : tie.Need-returns-4
-returns-4 c =
-    word-first (c .before .before .before .fetched2 .given .0 .0) (sym (c .before .is-refused .ensures) ∙ c .if1 .left)
-    (first-is _ (sym (c .before .before .before .fetched2 .given .1) ∙ c .before .before .before .before .before .fetch .ensures))
+    let found = c .before .before .before in
+    c .by-kind .ensures
+    ∙ word-first (found .fetched2 .given .0 .0) (c .before .word-kind .ensures)
+    (first-is _ (sym (found .fetched2 .given .1) ∙ found .before .before .fetch .ensures))
 
 pub first-word-spec : {M : Type 1} → statement M
 first-word-spec =
@@ -29,7 +26,7 @@ first-word-spec =
     (λ c. search needs)
     (λ c. search needs)
     (λ c κs. search needs)
+    (λ c κs. search needs)
     returns
     returns-2
-    returns-3
-    returns-4)
+    returns-3)

@@ -1,13 +1,25 @@
-use mathlib.Core.Path.{refl, sym, _∙_}
+use mathlib.Core.Path.{ap, _∙_}
+use Prim.Native.Nat.{ℕ}
 use borrow.Author.Needs.{needs}
+use Rattle.words.specs.Word.{endBy}
 use Rattle.block.proofs.walk.refused.Statement.{statement}
 use Rattle.block.proofs.walk.refused.Tie as tie
 
 returns : tie.Need-returns
-returns c = (refl, refl, rw (sym (c .before .is-load-or-store .ensures) ∙ c .if1 .taken) refl)
-
-returns-2 : tie.Need-returns-2
-returns-2 c = (refl, refl, rw (sym (c .before .is-load-or-store .ensures) ∙ c .if1 .left) refl)
+returns c =
+    let kind = c .before .before in
+    let a = kind .before .args in
+    let stopped = c .stopped .ensures in (
+      stopped .0,
+      stopped .1,
+      stopped .2 ∙ c .before .end-by-kind .ensures ∙ ap (λ (n : ℕ). endBy n (a .pc) (a .instr)) (kind .word-kind .ensures),
+    )
 
 pub refused-spec : {M : Type 1} → statement M
-refused-spec = tie.close (tie.spec (λ c κs. search needs) returns returns-2)
+refused-spec =
+    tie.close
+    (tie.spec
+    (λ c κs. search needs)
+    (λ c κs. search needs)
+    (λ c κs. search needs)
+    returns)

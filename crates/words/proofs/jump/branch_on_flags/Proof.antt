@@ -1,7 +1,7 @@
 use borrow.Author.Needs.{needs}
 use Rattle.agreement.specs.Translation.Kind.{kindBranch, match}
 use Rattle.words.proofs.Joined.{words}
-use Rattle.words.proofs.Matches.{missed}
+use Rattle.agreement.proofs.Laws.Matches.{missed}
 use Rattle.words.proofs.jump.branch_on_flags.Statement.{statement}
 use Rattle.words.proofs.jump.branch_on_flags.Tie as tie
 

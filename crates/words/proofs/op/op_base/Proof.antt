@@ -1,7 +1,7 @@
 use borrow.Author.Needs.{needs}
 use Rattle.agreement.specs.Translation.Kind.{kindOp, match}
 use Rattle.words.proofs.Joined.{words}
-use Rattle.words.proofs.Matches.{missed}
+use Rattle.agreement.proofs.Laws.Matches.{missed}
 use Rattle.words.proofs.op.op_base.Statement.{statement}
 use Rattle.words.proofs.op.op_base.Tie as tie
 

@@ -2,7 +2,7 @@ use borrow.Author.Needs.{needs}
 use borrow.Author.Tests.{ne-eqb}
 use Rattle.agreement.specs.Translation.Kind.{kindOpImm32, match}
 use Rattle.words.proofs.Joined.{words}
-use Rattle.words.proofs.Matches.{missed}
+use Rattle.agreement.proofs.Laws.Matches.{missed}
 use Rattle.words.proofs.op_imm.op_imm_32_on_r10.Statement.{statement}
 use Rattle.words.proofs.op_imm.op_imm_32_on_r10.Tie as tie
 

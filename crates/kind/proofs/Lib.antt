@@ -1,0 +1,3 @@
+pub mod Tested
+pub mod Classes
+pub mod Families
