@@ -5,7 +5,11 @@ use Prim.Native.Nat.{ℕ, suc, _+_, _<_, _≤_}
 use native.Mathlib.Omega.{arith}
 use native.Mathlib.Numerals.{add-one}
 use lib.ListN.{length, take, drop, set, getD, length-set}
-use lib.Seq.{take-length, paste, paste-zero, paste-suc}
+use lib.Seq.{take-length, take-append-seam, paste, paste-zero, paste-suc}
+
+-- the list with the code at the offset, and all else as before
+abbrev pub withCode : List ℕ → ℕ → List ℕ → List ℕ
+withCode before offset code = take offset before ++ (code ++ drop (offset + length code) before)
 
 -- the first i bytes of the code stand at the offset, and all else is as before
 pub record Copied (code before after : List ℕ) (offset i : ℕ) : Type 0 where
@@ -33,10 +37,14 @@ one-more {code} {before} {after} {offset} {i} h room below = record {
 }
 
 pub all-copied : {code before after : List ℕ} {offset i : ℕ} → Copied code before after offset i → length code ≤ i
-    → after ≡ take offset before ++ (code ++ drop (offset + length code) before)
+    → after ≡ withCode before offset code
 all-copied {code} {before} {offset = offset} {i = i} h e =
     let all : i ≡ length code = omega (arith, h .within, e) in
     h .bytes
     ∙ ap (paste before offset code) all
     ∙ append-assoc (take offset before) (take (length code) code) (drop (offset + length code) before)
     ∙ ap (λ (l : List ℕ). take offset before ++ (l ++ drop (offset + length code) before)) (take-length code)
+
+-- what was copied to the beginning of a list stands there
+pub at-beginning : (code before : List ℕ) {after : List ℕ} → after ≡ withCode before 0 code → take (length code) after ≡ code
+at-beginning code before e = ap (take (length code)) e ∙ take-append-seam code (drop (0 + length code) before)

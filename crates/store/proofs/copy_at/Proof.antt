@@ -1,41 +1,39 @@
-use Prim.Native.Nat.{_-_}
+use mathlib.Core.Path.{sym, ap, _∙_}
 use native.Mathlib.Omega.{arith}
 use lib.ListN.{length}
 use borrow.Author.Needs.{needs}
-use Rattle.store.proofs.Copying.{Copied, none-copied, one-more, all-copied}
+use Rattle.store.proofs.Copying.{withCode, at-beginning}
 use Rattle.store.proofs.copy_at.Statement.{statement}
 use Rattle.store.proofs.copy_at.Tie as tie
 
-abbrev Inv-loop : tie.InvT-loop
-Inv-loop code store₀ offset i₀ store i = Copied code store₀ store offset i
+slice-aggregate-copy-bytes-2 : tie.Need-slice-aggregate-copy-bytes-2
+slice-aggregate-copy-bytes-2 c =
+    let a = c .before .before .before .before .before .before .before .args in
+    sym (ap length (at-beginning (a .code .now) _ (c .before .before .copy-bytes .ensures)))
 
-abbrev μ-loop : tie.MeasureT-loop
-μ-loop code store₀ offset i₀ store i = length code - i
+copy-bytes-requires-2 : tie.Need-copy-bytes-requires-2
+copy-bytes-requires-2 c κs =
+    let a = c .before .before .before .before .before .before .before .before .args in
+    omega (arith, ap length (at-beginning (a .code .now) _ (c .before .before .before .copy-bytes .ensures)))
 
-loop-holds : tie.Need-loop-holds Inv-loop μ-loop
-loop-holds c = none-copied _ _ _
-
-loop-again : tie.Need-loop-again Inv-loop μ-loop
-loop-again c =
-    let test = c .before in
-    let loop = test .before in
-    one-more (loop .loop .inv) (loop .before .pre) (test .loop-test .taken)
-
-returns : tie.Need-returns Inv-loop μ-loop
-returns c = all-copied (c .before .loop .inv) (c .loop-test .left)
+returns : tie.Need-returns
+returns c =
+    let a = c .before .before .before .before .before .before .before .before .before .before .before .args in
+    c .before .before .copy-bytes2 .ensures
+    ∙ ap (withCode (a .store .now) (a .offset))
+    (at-beginning (a .code .now) _ (c .before .before .before .before .before .before .copy-bytes .ensures))
 
 pub copy-at-spec : {M : Type 1} → statement M
 copy-at-spec =
     tie.close
     (tie.spec
-    Inv-loop
-    μ-loop
-    loop-holds
     (λ c. search needs)
-    (λ c. omega arith)
-    (λ c. omega arith)
+    (λ c κs. search needs)
     (λ c. search needs)
+    slice-aggregate-copy-bytes-2
+    copy-bytes-requires-2
+    (λ c κs. search needs)
     (λ c. search needs)
-    loop-again
-    (λ c. c .before .loop .inv .same)
-    returns)
+    returns
+    (λ c. search needs)
+    (λ c. search needs))
