@@ -46,7 +46,6 @@ pub fn reply(line: &[u8]) {
             if word.value < 0x1_0000_0000 {
                 print_immediates(word.value as u32);
                 print_fields(word.value as u32);
-                io::write_all(STDOUT_FILENO, b"\n");
                 return;
             }
         }

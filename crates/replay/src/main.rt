@@ -9,12 +9,14 @@
 //
 // Other numbers are decimal. A line that is no request, or has over 8,192 bytes, or asks for lent bytes of over 65,536, gets
 // `bad request`, and the program goes on. Where lent bytes or a mark changed that must not, `touched` is behind the reply.
+// Each line is answered as it comes, so that another program can ask and wait for the reply.
 mod decoding;
 mod fields;
 mod pattern;
 mod placing;
 mod translation;
 
+use libc::STDERR_FILENO;
 use libc::STDIN_FILENO;
 use libc::STDOUT_FILENO;
 ghost use mathlib.Core.Path.{_≡_};
@@ -44,30 +46,42 @@ fn reply(line: &[u8]) {
 }
 
 pub fn bad_request() {
-    io::write_all(STDOUT_FILENO, b"bad request\n");
+    io::write_all(STDOUT_FILENO, b"bad request");
 }
 
-fn end_of_line(line: &[u8], used: usize) {
+// Whether the reply could be written.
+fn end_of_line(line: &[u8], used: usize) -> bool {
     if used <= line.len() {
         reply(&line[..used]);
     } else {
         bad_request();
     }
+    io::write_all(STDOUT_FILENO, b"\n")
 }
 
-// The line so far has n bytes; one more than there is place for stands for a line that is too long.
+// How many bytes the line so far has: one more than there is place for stands for a line that is too long, two more for an output
+// that cannot be written.
+const TOO_LONG: usize = 8193;
+
+const UNWRITABLE: usize = 8194;
+
 fn put(line: &mut [u8], n: usize, b: u8) -> usize
     requires { ⌜ 8192 ≡ length (now line) ⌝ }
 {
+    if n == UNWRITABLE {
+        return UNWRITABLE;
+    }
     if b == b'\n' {
-        end_of_line(line, n);
-        return 0;
+        if end_of_line(line, n) {
+            return 0;
+        }
+        return UNWRITABLE;
     }
     if n < 8192 {
         line[n] = b;
         return n + 1;
     }
-    8193
+    TOO_LONG
 }
 
 fn feed(text: &[u8], line: &mut [u8], used: usize) -> usize
@@ -80,23 +94,41 @@ fn feed(text: &[u8], line: &mut [u8], used: usize) -> usize
     n
 }
 
-// A last line without its end is answered too. The number of reads is bounded for the proof that the program ends:
-// 2^64 - 1 of them is more than any input.
+// The last line, which may lack its end. A program has no status to end with, so standard error tells.
+fn finish(line: &[u8], used: usize) {
+    let written = if used == UNWRITABLE {
+        false
+    } else if used > 0 {
+        end_of_line(line, used)
+    } else {
+        true
+    };
+    if !written {
+        io::write_all(
+            STDERR_FILENO,
+            b"replay: standard output cannot be written\n",
+        );
+    }
+}
+
+// The number of reads is bounded for the proof that the program ends: 2^64 - 1 of them is more than any input.
 fn main() {
     let mut buf = io::large_buffer();
     let mut line = [0u8; 8192];
     let mut used = 0usize;
     let mut left = 0xFFFF_FFFF_FFFF_FFFFu64;
     while left > 0 {
-        let n = io::read_full(STDIN_FILENO, &mut buf);
+        let n = io::count(libc::read(STDIN_FILENO, &mut buf), &buf);
         if n == 0 {
             left = 0;
         } else {
             used = feed(&buf[..n], &mut line, used);
-            left -= 1;
+            if used == UNWRITABLE {
+                left = 0;
+            } else {
+                left -= 1;
+            }
         }
     }
-    if used > 0 {
-        end_of_line(&line, used);
-    }
+    finish(&line, used);
 }

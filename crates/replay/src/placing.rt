@@ -62,7 +62,6 @@ fn answer(used: usize, code: &mut [u8], store: &mut [u8]) {
     if !print_answer(placing, used, a.used, code, store) {
         io::write_all(STDOUT_FILENO, b" touched");
     }
-    io::write_all(STDOUT_FILENO, b"\n");
 }
 
 pub fn reply(line: &[u8]) {

@@ -90,7 +90,6 @@ fn answer(
     if !pattern::is_untouched(out, used, out.len()) {
         io::write_all(STDOUT_FILENO, b" touched");
     }
-    io::write_all(STDOUT_FILENO, b"\n");
 }
 
 // No list of halfwords, or one that is too long.

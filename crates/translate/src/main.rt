@@ -1,6 +1,7 @@
 // Document 01's program: up to 256 bytes of code from standard input, a last odd byte dropped, are translated at 0x80000000 with
 // limit 64 and both helpers 0. The block's bytes go to standard output, or none when the translation is refused.
 use block::Answer;
+use libc::STDERR_FILENO;
 use libc::STDIN_FILENO;
 use libc::STDOUT_FILENO;
 ghost use mathlib.Core.Path.{_≡_};
@@ -53,10 +54,16 @@ fn block_of(code: &[u8], out: &mut [u8]) -> usize
     block_length(answer)
 }
 
+// A program has no status to end with, so standard error tells where the block could not be written.
 fn main() {
     let mut code = [0u8; 256];
     let n = io::read_full(STDIN_FILENO, &mut code);
     let mut out = [0u8; 2243];
     let k = block_of(&code[..n], &mut out);
-    io::write_all(STDOUT_FILENO, &out[..k]);
+    if !io::write_all(STDOUT_FILENO, &out[..k]) {
+        io::write_all(
+            STDERR_FILENO,
+            b"translate: standard output cannot be written\n",
+        );
+    }
 }
