@@ -5,10 +5,11 @@
 
 Builds the tests of rust/ (cargo, `rt`), copies their program, changes one bit in a function of the archive, and runs the tests: some
 must fail, or the program end by a fault or hang. A change that no test notices is printed with the instruction it stands in, to be read:
-there are bits that change nothing, such as unused bits of a prefix, upper bits of a shift count, or padding. Needs nm, readelf and
-objdump (binutils). The program runs damaged code in a process of its own with nothing but this user's rights.
+there are bits that change nothing, such as unused bits of a prefix, upper bits of a shift count, or padding. Those that have been read
+and found harmless are listed in HARMLESS, by the instruction that they stand in, and pass. Needs nm, readelf and objdump (binutils). The program
+runs damaged code in a process of its own with nothing but this user's rights. How far it is goes to standard error.
 
-The exit code is 0 where every change was noticed, else 1.
+The exit code is 0 where every change was noticed or is listed, else 1.
 """
 
 import argparse
@@ -19,12 +20,47 @@ import re
 import subprocess
 import sys
 import tempfile
+import time
 
 ROOT = os.path.dirname(os.path.dirname(os.path.abspath(__file__)))
 ARCHIVE = os.path.join(ROOT, "target", "staticlib", "libcapi.a")
 
 # Quick and sharp ones first: the first failure is enough.
 PARTS = ["cases", "every_", "placing", "sorts", "entered", "random_requests", "kinds"]
+
+# Changes that no caller can see, read one by one: function, place of the byte, bit; the instruction as objdump has it without addresses,
+# and why. Where the compiler writes other code, an entry fits no more, and what is then not noticed has to be read anew.
+OVERLAP = "only code and store that overlap come here, and these can't be lent"
+HARMLESS = {
+    ("emuko_translate", 0x03B, 1): ("mov 0x18(%rsp),%rcx", "a store, of what stands there already"),
+    ("emuko_translate", 0x30A, 0): ("movzbl %dl,%edx", "MOVZX of 16 bits; of these the upper 8 are 0"),
+    ("emuko_translate", 0x357, 3): ("test $0x1f,%r11b", "F6 with the digit 1 is TEST too"),
+    ("emuko_translate", 0x411, 2): ("cmp $0x20,%r9b", "REX.R, where a digit and no register stands"),
+    ("emuko_translate", 0x885, 3): ("test %r9d,%r9d", "REX.W; the upper half is 0"),
+    ("emuko_translate", 0x959, 1): ("je emuko_translate", "JBE behind TEST, which clears CF"),
+    ("emuko_translate", 0xA39, 3): ("and $0x2000,%r12d", "bit 27 of the mask of a number below 2^16"),
+    ("emuko_translate", 0xA5F, 4): ("shr %cl,%rdi", "SAR of a number below 2^63"),
+    ("emuko_translate", 0xAB9, 3): ("and $0x7fe,%r10d", "bit 27 of the mask of a number below 2^16"),
+    ("kind::word_kind", 0x046, 6): ("shl $0x3,%r9b", "a count is taken modulo 32"),
+    ("emuko_place", 0x05F, 5): ("cmp $0x1000,%rdx", "the length up to which memmove copies: the loop and memmove do the same"),
+    ("emuko_place", 0x155, 3): ("test $0x1c,%dl", "F6 with the digit 1 is TEST too"),
+    ("emuko_place", 0x103, 2): ("movzbl 0x3(%rsi,%r11,1),%r8d", OVERLAP),
+    ("emuko_place", 0x110, 0): ("cmp %r11,%rdx", OVERLAP),
+    ("emuko_place", 0x114, 5): ("jmp emuko_place", OVERLAP),
+}
+
+
+def harmless(name, place, bit, text, code, byte):
+    """Why a change is known to be harmless, or nothing."""
+    index = re.search(r"\([^()]*,[^()]*\)", text)
+    if text.startswith("nop"):
+        return "padding"
+    if not index and byte == 0 and code[0] >> 4 == 4 and bit == 1:
+        return "REX.X, which extends an index register; there is none"
+    if not index and "(%rsp)" in text and code[byte] == 0x24 and bit >= 6:
+        return "the scale of an index register; there is none"
+    listed, why = HARMLESS.get((name, place, bit), (None, None))
+    return why if listed == text else None
 
 
 def output(*command, **options):
@@ -65,13 +101,23 @@ def noticed(program):
 
 
 def instruction(name, place):
-    """The instruction of the archive that this byte of a function stands in."""
-    best = "?"
+    """The instruction of the archive that this byte of a function stands in: its text, its bytes, and which of them it is."""
+    text, code, byte = "?", b"\0", 0
     for line in output("objdump", "-d", "-w", f"--disassemble={name}", ARCHIVE).splitlines():
-        match = re.match(r"\s+([0-9a-f]+):\t(.*)", line)
+        match = re.match(r"\s+([0-9a-f]+):\t((?:[0-9a-f]{2} )+)\s*\t?(.*)", line)
         if match and int(match[1], 16) <= place:
-            best = " ".join(match[2].split())
-    return best
+            text, code, byte = " ".join(match[3].split()), bytes.fromhex(match[2]), place - int(match[1], 16)
+    return re.sub(r"[0-9a-f]+ <(\S+?)(\+0x[0-9a-f]+)?>", r"\1", text), code, byte
+
+
+def changed_bits(data, all_functions, rng, number):
+    """So many changes: function, byte and bit, and the program with the change."""
+    for _ in range(number):
+        name, at, length = rng.choices(all_functions, weights=[f[2] for f in all_functions])[0]
+        place, bit = rng.randrange(length), rng.randrange(8)
+        mutant = bytearray(data)
+        mutant[at + place] ^= 1 << bit
+        yield name, place, bit, mutant
 
 
 def main():
@@ -85,7 +131,8 @@ def main():
         sys.exit("the tests' program has no function of the archive")
     data = open(program, "rb").read()
     rng = random.Random(options.seed)
-    missed = 0
+    tried = missed = known = 0
+    shown = time.monotonic()
     with tempfile.TemporaryDirectory() as folder:
         changed = os.path.join(folder, "suite")
         with open(changed, "wb") as file:
@@ -93,17 +140,23 @@ def main():
         os.chmod(changed, 0o700)
         if noticed(changed):
             sys.exit("the tests fail without any change")
-        for _ in range(options.number):
-            name, at, length = rng.choices(all_functions, weights=[f[2] for f in all_functions])[0]
-            place, bit = rng.randrange(length), rng.randrange(8)
-            mutant = bytearray(data)
-            mutant[at + place] ^= 1 << bit
+        for name, place, bit, mutant in changed_bits(data, all_functions, rng, options.number):
             with open(changed, "wb") as file:
                 file.write(mutant)
+            tried += 1
             if not noticed(changed):
-                missed += 1
-                print(f"not noticed: {name}, byte {place:#x}, bit {bit}: {instruction(name, place)}", flush=True)
-    print(f"{options.number} changes, {options.number - missed} noticed")
+                text, code, byte = instruction(name, place)
+                why = harmless(name, place, bit, text, code, byte)
+                if why:
+                    known += 1
+                    print(f"harmless: {name}: {text}, byte {byte}, bit {bit}: {why}", flush=True)
+                else:
+                    missed += 1
+                    print(f"not noticed: {name}, at {place:#x}: {text}, byte {byte}, bit {bit}", flush=True)
+            if time.monotonic() - shown > 20:
+                shown = time.monotonic()
+                print(f"{tried} of {options.number} tried", file=sys.stderr, flush=True)
+    print(f"{tried} changes, {tried - missed - known} noticed, {known} known to be harmless")
     return 1 if missed else 0
 
 

@@ -5,7 +5,7 @@
 
 Needs the program translate (`rt check translate` at the repository's root builds it into target/bin), objdump (binutils) for
 the first part, and an x86-64 Linux with qemu-riscv64 (Debian: qemu-user) for the second; QEMU_RISCV64 may name the latter.
-A part whose tool is missing is skipped and says so.
+A part whose tool is missing, or of which no run is asked for, is skipped and says so.
 
 1. objdump: random runs are translated, and objdump reads the blocks. Instruction boundaries must meet every block's start and
    end, nothing may be (bad), opening and closing must be document 01's, and between them every instruction must be the one
@@ -15,9 +15,10 @@ A part whose tool is missing is skipped and says so.
    steps over its debugger's port. All registers and the pc must be the same after the block's count of steps. JALR has funct3
    0, since qemu refuses the others.
 
-With --spoil, each part changes one thing (a byte of a block, a word of a run) and must notice: the exit code is then 1.
+With --spoil, each part changes one thing (a byte of a block, a word of a run) and must notice it by itself.
 
-Ends with exit code 0 where nothing disagreed, 1 at the first disagreement, 2 where nothing could be checked.
+Ends with exit code 0 where no part found a disagreement (with --spoil: where every part found one), 1 where some part did (did not),
+2 where nothing could be checked.
 """
 
 import argparse
@@ -300,10 +301,10 @@ def check_objdump(words, number_of_runs, spoil):
             data += block
         else:
             refused += 1
-    if spoil:
+    if spoil and blocks:
         _, at, length, _ = blocks[len(blocks) // 2]
         data[at + length // 2] ^= 1
-    by_place = {place: (length, text) for place, length, text in disassembled(bytes(data))}
+    by_place = {place: (length, text) for place, length, text in disassembled(bytes(data))} if blocks else {}
     instructions = 0
     for code, at, length, want in blocks:
         place, texts = at, []
@@ -439,14 +440,14 @@ def check_qemu(program, words, number_of_runs, spoil):
             if rng.random() < .6:
                 run = run[:63] + [words.ending(False)]
             registers = values(rng)
+            spoiled = spoil and k == number_of_runs // 2
+            if spoiled:
+                run = [0x12345FB7]  # LUI x31
             block = translate(code_of(run))
             demand(block, "refused:", code_of(run).hex())
             slots, pc, count = processor.run(block, registers)
             demand(count == len(run), "count", count, "of", code_of(run).hex())
-            led = list(run)
-            if spoil and k == number_of_runs // 2:
-                led[0] = 0x00000FB7 | 0x5A5A5 << 12  # LUI x31
-                registers[31] = 0
+            led = [0x5A5A5FB7] if spoiled else run
             after, at = qemu.run(led, registers, count)
             others = [(i, hex(a), hex(b)) for i, (a, b) in enumerate(zip(slots, after)) if a != b]
             demand(not others, "registers after", code_of(run).hex(), others)
@@ -457,38 +458,61 @@ def check_qemu(program, words, number_of_runs, spoil):
     print(f"qemu: {number_of_runs} blocks, {steps} single steps, registers and pc the same")
 
 
-def main():
-    parser = argparse.ArgumentParser(description=__doc__, formatter_class=argparse.RawDescriptionHelpFormatter)
-    parser.add_argument("--seed", type=int, default=1)
-    parser.add_argument("--blocks", type=int, default=1000, help="runs for objdump")
-    parser.add_argument("--runs", type=int, default=1000, help="runs for qemu")
-    parser.add_argument("--spoil", action="store_true", help="change one thing, which must be noticed")
-    options = parser.parse_args()
-    if not os.access(TRANSLATE, os.X_OK):
-        print("target/bin/translate is not there: `rt check translate` at the repository's root builds it")
-        return 2
-    parts = []
-    if shutil.which("objdump"):
-        parts.append(lambda: check_objdump(Words(random.Random(options.seed)), options.blocks, options.spoil))
-    else:
+def number_of_runs(text):
+    number = int(text)
+    if number < 0:
+        raise argparse.ArgumentTypeError(f"{number} is less than 0")
+    return number
+
+
+def parts(options):
+    """Name and check of each part that can be run; what is skipped is said."""
+    found = []
+    if options.blocks == 0:
+        print("objdump: skipped, no run is asked for")
+    elif not shutil.which("objdump"):
         print("objdump: skipped, it is not installed (Debian: binutils)")
+    else:
+        found.append(("objdump", lambda: check_objdump(Words(random.Random(options.seed)), options.blocks, options.spoil)))
     qemu = os.environ.get("QEMU_RISCV64") or shutil.which("qemu-riscv64")
-    if (platform.system(), platform.machine()) != ("Linux", "x86_64"):
+    if options.runs == 0:
+        print("qemu: skipped, no run is asked for")
+    elif (platform.system(), platform.machine()) != ("Linux", "x86_64"):
         print("qemu: skipped, blocks can be entered on x86-64 Linux only")
     elif not qemu:
         print("qemu: skipped, qemu-riscv64 is not installed (Debian: qemu-user)")
     else:
-        parts.append(lambda: check_qemu(qemu, Words(random.Random(options.seed + 1)), options.runs, options.spoil))
-    failed = 0
-    for part in parts:
+        found.append(("qemu", lambda: check_qemu(qemu, Words(random.Random(options.seed + 1)), options.runs, options.spoil)))
+    return found
+
+
+def main():
+    parser = argparse.ArgumentParser(description=__doc__, formatter_class=argparse.RawDescriptionHelpFormatter)
+    parser.add_argument("--seed", type=int, default=1)
+    parser.add_argument("--blocks", type=number_of_runs, default=1000, help="runs for objdump")
+    parser.add_argument("--runs", type=number_of_runs, default=1000, help="runs for qemu")
+    parser.add_argument("--spoil", action="store_true", help="change one thing in each part, which must be noticed")
+    options = parser.parse_args()
+    if not os.access(TRANSLATE, os.X_OK):
+        print("target/bin/translate is not there: `rt check translate` at the repository's root builds it")
+        return 2
+    asked = parts(options)
+    wrong = 0
+    for name, part in asked:
         try:
             part()
+            if options.spoil:
+                wrong += 1
+                print(f"{name}: the change was NOT NOTICED")
         except Disagreement as disagreement:
-            failed += 1
-            print("DISAGREES:", disagreement)
-    if not parts:
+            if options.spoil:
+                print(f"{name}: the change was noticed: {disagreement}")
+            else:
+                wrong += 1
+                print(f"{name}: DISAGREES: {disagreement}")
+    if not asked:
         return 2
-    return 1 if failed else 0
+    return 1 if wrong else 0
 
 
 if __name__ == "__main__":
