@@ -4,6 +4,7 @@
 
 use std::env;
 use std::fs;
+use std::io::stderr;
 use std::path::{Path, PathBuf};
 use std::process::{exit, Command};
 
@@ -30,36 +31,40 @@ fn main() {
     };
 
     // A copy, so that a later `rt ci`, which empties target/, does not take the library away, and so that writing the archive
-    // does not by itself make cargo run this again.
+    // does not by itself make cargo run this again; under a name that no other library has.
     let out = PathBuf::from(env::var_os("OUT_DIR").unwrap());
-    if let Err(error) = fs::copy(&archive, out.join("libcapi.a")) {
+    if let Err(error) = fs::copy(&archive, out.join("libemuko_x64_blocks.a")) {
         stop(&format!("cannot read {}: {error}", archive.display()));
     }
     println!("cargo:rustc-link-search=native={}", out.display());
-    println!("cargo:rustc-link-lib=static=capi");
+    println!("cargo:rustc-link-lib=static=emuko_x64_blocks");
+    // For crates that depend on this one: DEP_EMUKO_X64_BLOCKS_ROOT.
+    println!("cargo:root={}", out.display());
 }
 
-/// Proves and compiles the crate capi; gives the archive.
+/// Proves and compiles the crate capi; gives the archive. What `rt` prints goes to standard error as it comes: cargo shows it where this
+/// fails, and while it runs under `-vv`.
 fn build() -> PathBuf {
     let manifest = PathBuf::from(env::var_os("CARGO_MANIFEST_DIR").unwrap());
     let root = manifest
         .parent()
         .expect("this folder stands in the repository");
-    let output = match Command::new("rt")
+    let status = match Command::new("rt")
         .args(["staticlib", "capi"])
         .current_dir(root)
-        .output()
+        .stdout(stderr())
+        .status()
     {
-        Ok(output) => output,
+        Ok(status) => status,
         Err(error) => stop(&format!(
             "cannot start `rt` ({error}). Put the Rattle kit's `rt` on the PATH, or set EMUKO_CAPI_ARCHIVE to a libcapi.a that \
              `rt staticlib capi` has built"
         )),
     };
-    if !output.status.success() {
-        eprint!("{}", String::from_utf8_lossy(&output.stdout));
-        eprint!("{}", String::from_utf8_lossy(&output.stderr));
-        stop("`rt staticlib capi` failed; its output stands above");
+    if !status.success() {
+        stop(&format!(
+            "`rt staticlib capi` failed ({status}); its output stands above"
+        ));
     }
     root.join("target/staticlib/libcapi.a")
 }

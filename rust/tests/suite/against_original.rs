@@ -3,8 +3,15 @@
 use crate::random::Random;
 use crate::requests::{self, Lent, Wanted};
 use crate::words;
-use emuko_original::{Answer, Original};
-use emuko_x64_blocks::{translate, Block, Refusal, Request, GREATEST_BLOCK};
+use emuko_original::{Answer, Emuko, Original, CODE_SIZE};
+use emuko_x64_blocks::{translate, Refusal, Request, GREATEST_BLOCK};
+
+/// Length and count of a block.
+#[derive(Clone, Copy, Debug, PartialEq, Eq)]
+pub struct Size {
+    pub length: usize,
+    pub count: u32,
+}
 
 /// The original, and what a comparison needs again and again.
 pub struct Comparison {
@@ -16,14 +23,14 @@ pub struct Comparison {
 impl Comparison {
     pub fn new(seed: u64) -> Self {
         Comparison {
-            original: Original::new(),
+            original: Original::new(CODE_SIZE),
             bytes: Vec::new(),
             lent: Lent::new(seed),
         }
     }
 
     /// Asks both and compares; gives the reply.
-    pub fn reply(&mut self, request: &Request, output: usize) -> Result<Block, Refusal> {
+    pub fn reply(&mut self, request: &Request, output: usize) -> Result<Size, Refusal> {
         let helpers = [request.helpers.halfword, request.helpers.memory];
         let answer = self.original.translate(
             request.start,
@@ -35,7 +42,7 @@ impl Comparison {
         let expected = match answer {
             // Document 01 adds number 5 and tests it last.
             Answer::Block(_) if output < GREATEST_BLOCK => Err(Refusal::OutputTooShort),
-            Answer::Block(count) => Ok(Block {
+            Answer::Block(count) => Ok(Size {
                 length: self.bytes.len(),
                 count,
             }),
@@ -44,7 +51,10 @@ impl Comparison {
             Answer::Missing(index) => Err(Refusal::MissingHalfword(index.try_into().unwrap())),
             Answer::NotTaken(word) => Err(Refusal::NotTaken(word)),
         };
-        let reply = translate(request, self.lent.lend(output));
+        let reply = translate(request, self.lent.lend(output)).map(|block| Size {
+            length: block.bytes().len(),
+            count: block.count(),
+        });
         assert_eq!(reply, expected, "{request:x?}, output {output}");
         let written = match reply {
             Ok(_) => &self.bytes[..],
@@ -57,14 +67,13 @@ impl Comparison {
         reply
     }
 
-    fn wanted(&mut self, wanted: &Wanted) -> Result<Block, Refusal> {
-        let request = Request {
-            start: wanted.start,
-            limit: wanted.limit,
-            halfwords: &wanted.halfwords[wanted.skipped..],
-            helpers: wanted.helpers,
-        };
-        self.reply(&request, wanted.output)
+    /// What becomes of a word by the original's own matches.
+    pub fn kind(&mut self, word: u32) -> u32 {
+        self.original.kind(word, &mut self.bytes)
+    }
+
+    fn wanted(&mut self, wanted: &Wanted) -> Result<Size, Refusal> {
+        self.reply(&wanted.request(), wanted.output)
     }
 }
 
@@ -86,7 +95,7 @@ impl Seen {
         }
     }
 
-    fn add(&mut self, reply: Result<Block, Refusal>) {
+    fn add(&mut self, reply: Result<Size, Refusal>) {
         match reply {
             Ok(block) => {
                 self.counts[block.count as usize] += 1;
@@ -187,10 +196,10 @@ fn every_output_length() {
     }
     for output in GREATEST_BLOCK..GREATEST_BLOCK + 300 {
         let reply = comparison.reply(&request, output);
-        let block = Block {
+        let size = Size {
             length: 88,
             count: 1,
         };
-        assert_eq!(reply, Ok(block));
+        assert_eq!(reply, Ok(size));
     }
 }

@@ -1,8 +1,8 @@
 //! Document 01's cases, one by one.
 
 use emuko_x64_blocks::{
-    place, translate, translate_to_vec, Block, Helpers, PlaceRefusal, Placed, Refusal, Request,
-    GREATEST_BLOCK, LEAST_BLOCK, MOST_STEPS,
+    place, translate, word_kind, Helpers, PlaceRefusal, Refusal, Request, WordKind, GREATEST_BLOCK,
+    LEAST_BLOCK, MOST_STEPS,
 };
 
 const START: u64 = 0x8000_0000;
@@ -15,12 +15,15 @@ const CLOSING: [u8; 15] = [
     0x48, 0x83, 0xC4, 0x08, 0x41, 0x5F, 0x41, 0x5E, 0x41, 0x5D, 0x41, 0x5C, 0x5D, 0x5B, 0xC3,
 ];
 
+/// The block's bytes and its count.
+fn translated(request: &Request) -> Result<(Vec<u8>, u32), Refusal> {
+    let mut out = [0; GREATEST_BLOCK];
+    let block = translate(request, &mut out)?;
+    Ok((block.bytes().to_vec(), block.count()))
+}
+
 fn reply(start: u64, limit: u32, halfwords: &[u16]) -> Result<(Vec<u8>, u32), Refusal> {
-    let request = Request {
-        limit,
-        ..Request::new(start, halfwords)
-    };
-    let reply = translate_to_vec(&request);
+    let reply = translated(&Request::new(start, halfwords).limit(limit));
     if let Ok((bytes, _)) = &reply {
         assert_eq!(bytes[..32], OPENING);
         assert_eq!(bytes[bytes.len() - 15..], CLOSING);
@@ -172,8 +175,9 @@ fn short_outputs() {
     assert_eq!(translate(&request, &mut []), Err(Refusal::OutputTooShort));
     assert_eq!(out, [0x5A; GREATEST_BLOCK]);
     let block = translate(&request, &mut out).unwrap();
-    assert_eq!((block.length, block.count), (88, 1));
-    assert_eq!(*block.bytes(&out), out[..88]);
+    assert_eq!((block.bytes().len(), block.count()), (88, 1));
+    let bytes = block.bytes().to_vec();
+    assert_eq!(bytes, out[..88]);
     assert_eq!(out[88..], [0x5A; GREATEST_BLOCK - 88]);
 }
 
@@ -182,10 +186,7 @@ fn short_outputs() {
 fn order_of_refusals() {
     let mut out = [0; 1];
     let mut first = |limit, start, halfwords: &[u16]| {
-        let request = Request {
-            limit,
-            ..Request::new(start, halfwords)
-        };
+        let request = Request::new(start, halfwords).limit(limit);
         translate(&request, &mut out).unwrap_err().number()
     };
     assert_eq!(first(0, 1, &[]), 1);
@@ -219,11 +220,8 @@ fn helper_ends() {
         .concat()
     };
     let bytes = |halfwords: &[u16]| {
-        let request = Request {
-            helpers,
-            ..Request::new(START, halfwords)
-        };
-        translate_to_vec(&request).unwrap().0
+        let request = Request::new(START, halfwords).helpers(helpers);
+        translated(&request).unwrap().0
     };
     let halfword = end(0x0001, START, helpers.halfword, &[]);
     assert_eq!(bytes(&[0x0001])[32..], halfword);
@@ -236,21 +234,16 @@ fn helper_ends() {
 
 #[test]
 fn placing() {
-    assert_eq!(
-        place(&[7; 67], &mut [0; 75], 5),
-        Ok(Placed {
-            offset: 8,
-            mark: 75
-        })
-    );
-    assert_eq!(place(&[7; 67], &mut [0; 74], 5), Err(PlaceRefusal::Full));
-    assert_eq!(place(&[], &mut [0; 5], 5), Err(PlaceRefusal::Full));
-    assert_eq!(
-        place(&[], &mut [0; 8], 5),
-        Ok(Placed { offset: 8, mark: 8 })
-    );
-    assert_eq!(place(&[], &mut [], 0), Ok(Placed { offset: 0, mark: 0 }));
-    assert_eq!(place(&[], &mut [], 1), Err(PlaceRefusal::MarkBeyondStore));
+    let placed = |code: usize, store: usize, used: usize| {
+        let reply = place(&vec![7; code], &mut vec![0; store], used);
+        reply.map(|placed| (placed.offset, placed.mark))
+    };
+    assert_eq!(placed(67, 75, 5), Ok((8, 75)));
+    assert_eq!(placed(67, 74, 5), Err(PlaceRefusal::Full));
+    assert_eq!(placed(0, 5, 5), Err(PlaceRefusal::Full));
+    assert_eq!(placed(0, 8, 5), Ok((8, 8)));
+    assert_eq!(placed(0, 0, 0), Ok((0, 0)));
+    assert_eq!(placed(0, 0, 1), Err(PlaceRefusal::MarkBeyondStore));
 }
 
 #[test]
@@ -279,12 +272,17 @@ fn numbers_and_texts() {
     assert_eq!(error.to_string(), "the store has no room for the code");
 }
 
-/// The bytes of an output that is longer than the block are the block's.
+/// The numbers of the kinds, and a word of each.
 #[test]
-fn bytes_of_a_block() {
-    let block = Block {
-        length: 3,
-        count: 1,
-    };
-    assert_eq!(*block.bytes(&[1, 2, 3, 4]), [1, 2, 3]);
+fn kinds_of_words() {
+    let kinds = [
+        (0x0220_91B3, WordKind::NotTaken),
+        (0x0050_0093, WordKind::Straight),
+        (0x0000_006F, WordKind::Ending),
+        (0x0000_B083, WordKind::MemoryHelper),
+    ];
+    for (number, (word, kind)) in kinds.into_iter().enumerate() {
+        assert_eq!(word_kind(word), kind);
+        assert_eq!(kind as usize, number);
+    }
 }

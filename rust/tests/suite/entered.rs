@@ -5,7 +5,10 @@ use crate::manual::{Run, Turn};
 use crate::random::Random;
 use crate::requests;
 use crate::words;
-use emuko_x64_blocks::{translate, CodeStore, Helpers, Refusal, Request, GREATEST_BLOCK};
+use emuko_x64_blocks::{
+    block_fn, translate, BlockResult, CodeStore, HelperFn, Helpers, Refusal, Request,
+    GREATEST_BLOCK,
+};
 use std::ffi::c_void;
 use std::mem::offset_of;
 use std::sync::{Mutex, MutexGuard};
@@ -447,26 +450,22 @@ fn lists(seed: u64, number: u32) -> Seen {
             };
             let before = run.pc;
             let turn = run.turn(limit, &halfwords, output);
-            let request = Request {
-                start: pc,
-                limit,
-                halfwords: &halfwords,
-                helpers: helpers(),
-            };
+            let request = Request::new(pc, &halfwords).limit(limit).helpers(helpers());
             let reply = translate(&request, &mut machine.out[..output]);
             assert_eq!(reply.is_err(), turn == Turn::Refused, "{request:x?}");
             let Ok(block) = reply else {
                 seen.refused += 1;
                 continue;
             };
+            let (length, count) = (block.bytes().len(), u64::from(block.count()));
             let after = machine.after();
-            let entered = machine.enter(block.length, &after);
+            let entered = machine.enter(length, &after);
             seen.entries += 1;
             pc = entered.rax;
             match (turn, entered.helper) {
                 (Turn::Plain { added }, None) => {
                     assert_eq!(entered.rdx, added, "{request:x?}");
-                    assert_eq!(block.count as u64, added);
+                    assert_eq!(count, added);
                     sum += entered.rdx;
                     seen.instructions += added;
                     let at = 2 * (added as usize - 1);
@@ -491,7 +490,7 @@ fn lists(seed: u64, number: u32) -> Seen {
                     let (keep, put, [rax, rdx]) = after;
                     assert_eq!(entered.rax, rax, "RAX is the helper's");
                     assert_eq!(entered.rdx, rdx.wrapping_add(added));
-                    assert_eq!(block.count as u64, added + 1);
+                    assert_eq!(count, added + 1);
                     let left = std::array::from_fn(|k| (run.x[k] & keep[k]) ^ put[k]);
                     run.resume(left, rax);
                     sum = 0;
@@ -542,14 +541,12 @@ fn a_loop() {
     let (mut pc, mut count, mut entries) = (0x8000_0000, 0, 0);
     let refusal = loop {
         let from = (pc - 0x8000_0000) as usize / 2;
-        let request = Request {
-            helpers: helpers(),
-            ..Request::new(pc, &memory[from..])
-        };
+        let request = Request::new(pc, &memory[from..]).helpers(helpers());
         match translate(&request, &mut machine.out) {
             Ok(block) => {
+                let length = block.bytes().len();
                 let after = machine.after();
-                let entered = machine.enter(block.length, &after);
+                let entered = machine.enter(length, &after);
                 assert!(entered.helper.is_none());
                 (pc, count, entries) = (entered.rax, count + entered.rdx, entries + 1);
             }
@@ -579,14 +576,59 @@ fn a_changed_block_is_noticed() {
         let caught = std::panic::catch_unwind(|| {
             let mut machine = Machine::new(33);
             let block = translate(&Request::new(0x8000_0000, &run), &mut machine.out).unwrap();
+            let length = block.bytes().len();
             let changed = &mut machine.out[place..place + bytes.len()];
             assert_ne!(*changed, *bytes);
             changed.copy_from_slice(bytes);
             let after = machine.after();
-            machine.enter(block.length, &after);
+            machine.enter(length, &after);
         });
         let panic = caught.expect_err(message);
         let text = panic.downcast_ref::<String>().unwrap();
         assert!(text.contains(message), "{text}");
     }
+}
+
+/// A block entered as a [`block_fn`], its helper a [`HelperFn`] in Rust.
+#[test]
+fn a_block_as_a_function() {
+    /// Adds the instruction and its pc to x5; `hart` is the registers' address.
+    unsafe extern "C" fn load(
+        hart: *mut c_void,
+        bus_data: *mut c_void,
+        bus_vtable: *mut c_void,
+        instruction: u64,
+        pc: u64,
+    ) -> BlockResult {
+        assert_eq!((bus_data as u64, bus_vtable as u64), (2, 3));
+        let x5 = hart.cast::<u64>().wrapping_add(5);
+        // SAFETY: The test passes the registers as the hart.
+        unsafe { *x5 += instruction + pc };
+        BlockResult {
+            next_pc: pc + 4,
+            executed: 1,
+        }
+    }
+    let helpers = Helpers::new(load as HelperFn, load as HelperFn);
+    // ADDI x5, x0, 7; LD x1, 0(x1)
+    let run = [0x0293, 0x0070, 0xB083, 0x0000];
+    let mut out = [0; GREATEST_BLOCK];
+    let request = Request::new(0x8000_0000, &run).helpers(helpers);
+    let block = translate(&request, &mut out).unwrap();
+    let mut store = CodeStore::new(executable(4096));
+    let offset = store.place(block.bytes()).unwrap().offset;
+    let mut regs = [0u64; 32];
+    let slots = regs.as_mut_ptr();
+    // SAFETY: The block stands in executable memory as it was translated, and its helper takes the arguments as they are passed.
+    let result = unsafe {
+        let enter = block_fn(store.bytes()[offset..].as_ptr());
+        let other = |number: usize| number as *mut c_void;
+        enter(slots, slots.cast(), other(2), other(3), other(4), other(5))
+    };
+    let expected = BlockResult {
+        next_pc: 0x8000_0008,
+        executed: 2,
+    };
+    assert_eq!(result, expected);
+    assert_eq!(regs[5], 7 + 0x0000_B083 + 0x8000_0004);
 }

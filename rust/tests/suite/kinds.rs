@@ -1,10 +1,10 @@
 //! The first word's kind: taken, not taken or by a helper, and the block's bytes, against the original Rust. Of the 2^32 words all
 //! values of opcode, funct3 and funct7 are tried with each register field at its limits, and every compressed halfword.
 
-use crate::against_original::Comparison;
+use crate::against_original::{Comparison, Size};
 use crate::random::Random;
 use crate::words;
-use emuko_x64_blocks::{Block, Helpers, Refusal, Request, GREATEST_BLOCK};
+use emuko_x64_blocks::{word_kind, Helpers, Refusal, Request, WordKind, GREATEST_BLOCK};
 
 const LIMITS: [u32; 5] = [0, 1, 15, 16, 31];
 const HELPERS: Helpers = Helpers {
@@ -12,17 +12,21 @@ const HELPERS: Helpers = Helpers {
     memory: 0x99AA_BBCC_DDEE_FF00,
 };
 
+/// The word's kind, as the original's matches have it; the translation of the word alone tells whether it is taken.
+fn kind(comparison: &mut Comparison, start: u64, word: u32) -> WordKind {
+    let kind = word_kind(word);
+    assert_eq!(kind as u32, comparison.kind(word), "{word:08x}");
+    let taken = taken(comparison, start, word);
+    assert_eq!(taken, kind != WordKind::NotTaken, "{word:08x}");
+    kind
+}
+
 /// Whether a first word is taken.
 fn taken(comparison: &mut Comparison, start: u64, word: u32) -> bool {
     let run = words::halves(word);
-    let request = Request {
-        start,
-        limit: 1,
-        halfwords: &run,
-        helpers: HELPERS,
-    };
+    let request = Request::new(start, &run).limit(1).helpers(HELPERS);
     match comparison.reply(&request, GREATEST_BLOCK) {
-        Ok(Block { count, .. }) => {
+        Ok(Size { count, .. }) => {
             assert_eq!(count, 1);
             true
         }
@@ -33,10 +37,10 @@ fn taken(comparison: &mut Comparison, start: u64, word: u32) -> bool {
     }
 }
 
-/// All words of these opcodes with register fields at their limits.
-fn by_field(opcodes: impl Iterator<Item = u32>, seed: u64) -> (u32, u32) {
+/// All words of these opcodes with register fields at their limits: how many there are of each kind.
+fn by_field(opcodes: impl Iterator<Item = u32>, seed: u64) -> [u32; 4] {
     let mut comparison = Comparison::new(seed);
-    let mut count = (0, 0);
+    let mut count = [0; 4];
     for opcode in opcodes {
         for upper in 0..1024 {
             let (funct3, funct7) = (upper % 8, upper / 8);
@@ -45,8 +49,7 @@ fn by_field(opcodes: impl Iterator<Item = u32>, seed: u64) -> (u32, u32) {
                     for rd in LIMITS {
                         let word =
                             funct7 << 25 | rs2 << 20 | rs1 << 15 | funct3 << 12 | rd << 7 | opcode;
-                        count.0 += taken(&mut comparison, 0x8000_0000, word) as u32;
-                        count.1 += 1;
+                        count[kind(&mut comparison, 0x8000_0000, word) as usize] += 1;
                     }
                 }
             }
@@ -60,18 +63,33 @@ fn opcodes() -> impl Iterator<Item = u32> {
     (0..128).filter(|opcode| opcode & 3 == 3)
 }
 
-/// What document 01 takes of these words, counted by hand from its list.
+/// The two halves of a test, for two cores, and their sums.
+fn in_two<const N: usize>(
+    first: impl FnOnce() -> [u32; N],
+    second: impl FnOnce() -> [u32; N] + Send + 'static,
+) -> [u32; N] {
+    let second = std::thread::spawn(second);
+    let first = first();
+    let second = second.join().unwrap();
+    std::array::from_fn(|k| first[k] + second[k])
+}
+
+/// What document 01 makes of these words, counted by hand from its list.
 #[test]
 fn words_by_field() {
-    // In parts, for two cores.
-    let second = std::thread::spawn(|| by_field(opcodes().skip(16), 21));
-    let first = by_field(opcodes().take(16), 20);
-    let second = second.join().unwrap();
-    assert_eq!(first.1 + second.1, 32 * 1024 * 125);
-    // Pairs of funct3 and funct7, out of 1,024 for each opcode: LUI, AUIPC, JAL and JALR all; branches 6 funct3 of 8; loads 7, stores 4,
-    // fences 2; OP_IMM 6 and the shifts, whose six upper bits leave two funct7 each; OP_IMM_32 1 and 3 exact ones; OP 11; OP_32 6.
-    let pairs = 4 * 1024 + (6 + 7 + 4 + 2 + 6 + 1) * 128 + 3 * 2 + 3 + 11 + 6;
-    assert_eq!(first.0 + second.0, pairs * 125);
+    let count = in_two(
+        || by_field(opcodes().take(16), 20),
+        || by_field(opcodes().skip(16), 21),
+    );
+    // Pairs of funct3 and funct7, out of 1,024 for each opcode. Straight: LUI and AUIPC all; 2 funct3 of 8 of the fences, 6 of OP_IMM,
+    // 1 of OP_IMM_32; the shifts of OP_IMM, whose six upper bits leave two funct7 each; 3 exact ones of OP_IMM_32; OP 11; OP_32 6.
+    let straight = 2 * 1024 + (2 + 6 + 1) * 128 + 3 * 2 + 3 + 11 + 6;
+    // JAL and JALR all, branches 6 funct3 of 8; loads 7, stores 4.
+    let ending = 2 * 1024 + 6 * 128;
+    let memory = (7 + 4) * 128;
+    let not_taken = 32 * 1024 - straight - ending - memory;
+    let pairs = [not_taken, straight, ending, memory];
+    assert_eq!(count, pairs.map(|pairs| pairs * 125));
 }
 
 /// Every first word whatever, with `all_halfwords`: 2^30 words whose low two bits are 3, each with all its bytes.
@@ -80,17 +98,30 @@ fn words_by_field() {
 fn every_word() {
     let part = |first: u32, seed: u64| {
         let mut comparison = Comparison::new(seed);
-        let words = (first..first + (1 << 29)).map(|k| k << 2 | 3);
-        words
-            .filter(|word| taken(&mut comparison, 0x8000_0000, *word))
-            .count()
+        let mut count = [0; 4];
+        for word in (first..first + (1 << 29)).map(|k| k << 2 | 3) {
+            count[kind(&mut comparison, 0x8000_0000, word) as usize] += 1;
+        }
+        count
     };
-    let second = std::thread::spawn(move || part(1 << 29, 26));
-    let count = part(0, 25) + second.join().unwrap();
+    let count = in_two(|| part(0, 25), move || part(1 << 29, 26));
     // For each opcode there are 2^25 words, 2^22 for one funct3 and 2^15 for a funct7 besides; the shifts that have six upper bits
     // fixed are 2^16. The numbers are those of `words_by_field`.
-    let expected = (4 << 25) + ((6 + 7 + 4 + 2 + 6 + 1) << 22) + (3 << 16) + ((3 + 11 + 6) << 15);
-    assert_eq!(count, expected);
+    let straight = (2 << 25) + ((2 + 6 + 1) << 22) + (3 << 16) + ((3 + 11 + 6) << 15);
+    let ending = (2 << 25) + (6 << 22);
+    let memory = (7 + 4) << 22;
+    assert_eq!(count[1..], [straight, ending, memory]);
+    assert_eq!(count.iter().sum::<u32>(), 1 << 30);
+}
+
+/// A word whose low two bits are not 3 is none.
+#[test]
+fn no_words() {
+    let mut r = Random::new(27);
+    for _ in 0..1_000_000 {
+        let word = r.u32() & !3 | r.below(3) as u32;
+        assert_eq!(word_kind(word), WordKind::NotTaken, "{word:08x}");
+    }
 }
 
 /// Every compressed halfword, alone and with a halfword behind it.
@@ -101,15 +132,12 @@ fn all_halfwords() {
     for low in 0..=u16::MAX {
         let run = [low, 0xFFFF];
         for run in [&run[..1], &run[..]] {
-            let request = Request {
-                helpers: HELPERS,
-                ..Request::new(0x8000_0000, run)
-            };
+            let request = Request::new(0x8000_0000, run).helpers(HELPERS);
             let reply = comparison.reply(&request, GREATEST_BLOCK);
             if low & 3 != 3 {
                 assert_eq!(
                     reply,
-                    Ok(Block {
+                    Ok(Size {
                         length: 88,
                         count: 1
                     })
@@ -131,27 +159,27 @@ fn random_words() {
     let mut count = 0;
     for _ in 0..500_000 {
         let (word, start) = (r.u32() | 3, r.u64() & !1);
-        count += taken(&mut comparison, start, word) as u32;
+        let kind = kind(&mut comparison, start, word);
+        count += (kind != WordKind::NotTaken) as u32;
     }
     assert!((100_000..400_000).contains(&count), "{count}");
 }
 
-/// Words of each sort of document 01's list: all of the first four sorts are taken, none of the last.
+/// Words of each sort of document 01's list.
 #[test]
 fn sorts_of_words() {
     let mut r = Random::new(24);
     let mut comparison = Comparison::new(24);
     for _ in 0..100_000 {
         let start = r.u64() & !1;
-        let word = words::straight(&mut r);
-        assert!(taken(&mut comparison, start, word), "{word:08x}");
-        let word = words::ending(&mut r);
-        assert!(taken(&mut comparison, start, word), "{word:08x}");
-        let word = words::memory(&mut r);
-        assert!(taken(&mut comparison, start, word), "{word:08x}");
+        let mut of_kind = |word: u32, expected: WordKind| {
+            assert_eq!(kind(&mut comparison, start, word), expected, "{word:08x}");
+        };
+        of_kind(words::straight(&mut r), WordKind::Straight);
+        of_kind(words::ending(&mut r), WordKind::Ending);
+        of_kind(words::memory(&mut r), WordKind::MemoryHelper);
+        of_kind(words::refused(&mut r), WordKind::NotTaken);
         let word = words::halfword(&mut r) as u32;
         assert!(taken(&mut comparison, start, word), "{word:08x}");
-        let word = words::refused(&mut r);
-        assert!(!taken(&mut comparison, start, word), "{word:08x}");
     }
 }

@@ -1,14 +1,18 @@
-//! One program of tests: the crate against the original Rust, against an interpreter of the RISC-V manual with blocks entered on this
-//! processor, and document 01's cases. Seeds are fixed.
+//! One program of tests: the crate against the original Rust, emuko linked with it against the original emulator, blocks entered on this
+//! processor against an interpreter of the RISC-V manual, document 01's cases, the C header and README's lines. Seeds are fixed.
 
 mod against_original;
 mod cases;
 #[cfg(all(target_arch = "x86_64", target_os = "linux"))]
 mod entered;
+mod in_c;
 mod kinds;
+mod linked;
 #[cfg(all(target_arch = "x86_64", target_os = "linux"))]
 mod manual;
 mod placing;
 mod random;
+mod readme;
 mod requests;
+mod run;
 mod words;

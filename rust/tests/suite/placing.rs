@@ -2,7 +2,15 @@
 
 use crate::random::Random;
 use crate::requests::Lent;
+use emuko_original::{Emuko, Original};
 use emuko_x64_blocks::{place, CodeStore, PlaceRefusal, Placed};
+
+/// Offset and mark.
+type Answer = Result<(usize, usize), PlaceRefusal>;
+
+fn answer(reply: Result<Placed, PlaceRefusal>) -> Answer {
+    reply.map(|placed| (placed.offset, placed.mark))
+}
 
 struct Comparison {
     code: Vec<u8>,
@@ -20,7 +28,7 @@ impl Comparison {
         }
     }
 
-    fn reply(&mut self, used: usize, store: usize, code: usize) -> Result<Placed, PlaceRefusal> {
+    fn reply(&mut self, used: usize, store: usize, code: usize) -> Answer {
         // From another place each time, as the store does.
         self.number += 1;
         let code = &self.code[self.number % 61..][..code];
@@ -30,15 +38,13 @@ impl Comparison {
         let expected = if used > store {
             Err(PlaceRefusal::MarkBeyondStore)
         } else {
-            emuko_original::place(code, &mut before, used)
-                .map(|(offset, mark)| Placed { offset, mark })
-                .ok_or(PlaceRefusal::Full)
+            Original::place(code, &mut before, used).ok_or(PlaceRefusal::Full)
         };
-        let reply = place(code, lent, used);
+        let reply = answer(place(code, lent, used));
         assert_eq!(reply, expected, "{used} {store} {}", code.len());
         assert!(*lent == before, "store: {used} {store} {}", code.len());
         let (offset, written) = match reply {
-            Ok(placed) => (placed.offset, code),
+            Ok((offset, _)) => (offset, code),
             Err(_) => (0, &[][..]),
         };
         assert!(
@@ -86,6 +92,21 @@ fn around_the_end() {
     assert_eq!(cases, 1828);
 }
 
+/// Around the length up to which code is read whole before it is written.
+#[test]
+fn long_code() {
+    let mut comparison = Comparison::new(16);
+    let mut placed = 0;
+    for code in (4090..=4170).chain([5000, 6001, 8000]) {
+        for used in 0..=5 {
+            for store in [8100, 8192] {
+                placed += comparison.reply(used, store, code).is_ok() as u32;
+            }
+        }
+    }
+    assert_eq!(placed, 84 * 6 * 2);
+}
+
 #[test]
 fn random_cases() {
     let mut r = Random::new(12);
@@ -130,10 +151,10 @@ fn stores_in_a_row() {
     let mut refusals = 0;
     for k in 0..5_000 {
         let code: Vec<u8> = (0..r.below(2244)).map(|_| r.u32() as u8).collect();
-        let reply = ours.place(&code);
-        match emuko_original::place(&code, &mut bytes, mark) {
+        let reply = answer(ours.place(&code));
+        match Original::place(&code, &mut bytes, mark) {
             Some((offset, new)) => {
-                assert_eq!(reply, Ok(Placed { offset, mark: new }));
+                assert_eq!(reply, Ok((offset, new)));
                 mark = new;
             }
             None => {
@@ -156,13 +177,7 @@ fn stores_in_a_row() {
 fn a_mark_that_is_given() {
     let mut bytes = [0; 80];
     let mut store = CodeStore::with_mark(&mut bytes[..], 5);
-    assert_eq!(
-        store.place(&[1; 67]),
-        Ok(Placed {
-            offset: 8,
-            mark: 75
-        })
-    );
+    assert_eq!(answer(store.place(&[1; 67])), Ok((8, 75)));
     assert_eq!(store.mark(), 75);
     let mut beyond = CodeStore::with_mark(&mut bytes[..], 81);
     assert_eq!(beyond.place(&[]), Err(PlaceRefusal::MarkBeyondStore));
@@ -188,7 +203,7 @@ fn side_by_side() {
                     let code = fresh[code_at..code_at + length].to_vec();
                     let mut expected = fresh.clone();
                     let store = &mut expected[store_at..store_at + STORE];
-                    let original = emuko_original::place(&code, store, used);
+                    let original = Original::place(&code, store, used);
 
                     let mut buffer = fresh;
                     let reply = if code_first {
@@ -198,7 +213,7 @@ fn side_by_side() {
                         let (store, code) = buffer.split_at_mut(code_at);
                         place(code, &mut store[..STORE], used)
                     };
-                    let reply = reply.ok().map(|placed| (placed.offset, placed.mark));
+                    let reply = answer(reply).ok();
                     assert_eq!(reply, original, "{length} {gap} {used} {code_first}");
                     assert!(buffer == expected, "{length} {gap} {used} {code_first}");
                     placed += reply.is_some() as u32;

@@ -2,7 +2,7 @@
 
 use crate::random::Random;
 use crate::words;
-use emuko_x64_blocks::{Helpers, GREATEST_BLOCK};
+use emuko_x64_blocks::{Helpers, Request, GREATEST_BLOCK};
 
 pub struct Wanted {
     pub start: u64,
@@ -12,6 +12,14 @@ pub struct Wanted {
     pub skipped: usize,
     pub helpers: Helpers,
     pub output: usize,
+}
+
+impl Wanted {
+    pub fn request(&self) -> Request<'_> {
+        Request::new(self.start, &self.halfwords[self.skipped..])
+            .limit(self.limit)
+            .helpers(self.helpers)
+    }
 }
 
 /// A run of halfwords: straight words, then an end of any sort.

@@ -1,0 +1,90 @@
+/* The header and the archive from C: a run is fetched as far as it is needed, translated, placed and entered.
+ *
+ *     rt staticlib capi
+ *     cc -std=c11 -Wall -Wextra -Werror -pedantic c/test.c target/staticlib/libcapi.a -o target/c-test && target/c-test
+ *
+ * Ends with status 0, and prints nothing but that all is well, where everything is as expected. */
+#define _DEFAULT_SOURCE
+#include "emuko_x64_blocks.h"
+
+#include <stdio.h>
+#include <stdlib.h>
+#include <string.h>
+#include <sys/mman.h>
+
+#define CHECK(condition) \
+    do { \
+        if (!(condition)) { \
+            fprintf(stderr, "c/test.c:%d: not so: %s\n", __LINE__, #condition); \
+            exit(1); \
+        } \
+    } while (0)
+
+#define START 0x80000000u
+
+/* ADDI x1, x0, 5; ADD x2, x1, x1; LD x3, 0(x1); what stands behind it is not needed. */
+static const uint16_t code[] = {0x0093, 0x0050, 0x8133, 0x0010, 0xB183, 0x0000, 0x0093};
+
+/* How many of the halfwords a translation needs. */
+static size_t needed(const uint16_t *halfwords, size_t length, uint32_t limit) {
+    size_t k = 0;
+    for (uint32_t step = 0; step < limit && step < EMUKO_MOST_STEPS; step++) {
+        if (k == length) return k;
+        if ((halfwords[k] & 3) != 3 || k + 1 == length) return k + 1;
+        uint32_t word = (uint32_t)halfwords[k + 1] << 16 | halfwords[k];
+        k += 2;
+        if (emuko_word_kind(word) != EMUKO_STRAIGHT) return k;
+    }
+    return k;
+}
+
+/* The hart is the registers: x3 becomes 1000 + x1. */
+static emuko_result load(void *hart, void *bus_data, void *bus_vtable, uint64_t instruction, uint64_t pc) {
+    uint64_t *regs = hart;
+    CHECK(bus_data == &regs[30] && bus_vtable == &regs[31]);
+    CHECK(instruction == 0x0000B183 && pc == START + 8);
+    regs[3] = 1000 + regs[1];
+    return (emuko_result){pc + 4, 1};
+}
+
+static uint64_t address(emuko_helper helper) {
+    uint64_t number;
+    memcpy(&number, &helper, sizeof number);
+    return number;
+}
+
+int main(void) {
+    CHECK(emuko_word_kind(0x022091B3) == EMUKO_NOT_TAKEN);
+    CHECK(emuko_word_kind(0x00500093) == EMUKO_STRAIGHT);
+    CHECK(emuko_word_kind(0x0000006F) == EMUKO_ENDING);
+    CHECK(emuko_word_kind(0x0000B183) == EMUKO_MEMORY_HELPER);
+    size_t length = needed(code, sizeof code / sizeof code[0], 64);
+    CHECK(length == 6);
+
+    static uint8_t out[EMUKO_GREATEST_BLOCK];
+    uint64_t helper = address(load);
+    emuko_reply reply = emuko_translate(START, 64, code, length, 0, helper, out, sizeof out);
+    CHECK(reply.number == 0 && reply.second == 3);
+    CHECK(emuko_translate(START, 0, code, length, 0, 0, out, sizeof out).number == 1);
+    CHECK(emuko_translate(START + 1, 1, code, length, 0, 0, out, sizeof out).first == START + 1);
+    CHECK(emuko_translate(START, 1, code, 1, 0, 0, out, sizeof out).first == 1);
+    CHECK(emuko_translate(START, 1, code, length, 0, 0, out, sizeof out - 1).number == 5);
+
+    size_t size = 4096;
+    uint8_t *store = mmap(NULL, size, PROT_READ | PROT_WRITE | PROT_EXEC, MAP_PRIVATE | MAP_ANONYMOUS, -1, 0);
+    CHECK(store != MAP_FAILED);
+    emuko_reply placed = emuko_place(out, reply.first, store, size, 5);
+    CHECK(placed.number == 0 && placed.first == 8 && placed.second == 8 + reply.first);
+    CHECK(emuko_place(out, reply.first, store, size, size + 1).number == 6);
+    CHECK(emuko_place(out, reply.first, store, size, size).number == 7);
+
+    emuko_block block;
+    void *entry = store + placed.first;
+    memcpy(&block, &entry, sizeof block);
+    uint64_t regs[32] = {0};
+    emuko_result result = block(regs, regs, &regs[30], &regs[31], NULL, NULL);
+    CHECK(result.next_pc == START + 12 && result.executed == 3);
+    CHECK(regs[0] == 0 && regs[1] == 5 && regs[2] == 10 && regs[3] == 1005 && regs[4] == 0);
+    puts("c/test.c: a block was translated, placed and entered");
+    return 0;
+}

@@ -1,0 +1,70 @@
+//! The runs of words that are translated.
+
+use crate::random::Random;
+use crate::words;
+
+pub const START: u64 = 0x8000_0000;
+
+/// One run, translated again and again.
+pub struct Case {
+    pub name: &'static str,
+    pub run: Vec<u16>,
+    /// The block's count, 0 where the first word is refused.
+    pub count: u32,
+}
+
+pub fn halves(words: &[u32]) -> Vec<u16> {
+    words.iter().flat_map(|word| words::halves(*word)).collect()
+}
+
+pub fn cases() -> Vec<Case> {
+    let unit = [
+        0x0050_0093, // ADDI x1, x0, 5
+        0x0020_81B3, // ADD x3, x1, x2
+        0x4030_8233, // SUB x4, x1, x3
+        0x0041_F2B3, // AND x5, x3, x4
+        0x00A2_E313, // ORI x6, x5, 10
+        0x00C3_1393, // SLLI x7, x6, 12
+        0x0073_D413, // SRLI x8, x7, 7
+        0x1234_5537, // LUI x10, 0x12345
+        0x0000_0597, // AUIPC x11, 0
+        0x0015_861B, // ADDIW x12, x11, 1
+        0x00C5_063B, // ADDW x12, x10, x12
+        0x00B6_2733, // SLT x14, x12, x11
+        0x02E7_87B3, // MUL x15, x15, x14
+        0x0FF7_F813, // ANDI x16, x15, 255
+        0x0018_3893, // SLTIU x17, x16, 1
+        0x0000_000F, // FENCE
+    ];
+    let bne = 0xFE20_9CE3; // BNE x1, x2, -8
+    let ld = 0x0000_B083; // LD x1, 0(x1)
+    let mulh = 0x0220_91B3; // MULH x3, x1, x2
+    let mut long = unit.repeat(4);
+    long[63] = bne;
+    let mut short = unit.to_vec();
+    short[15] = bne;
+    let case = |name, words: &[u32], count| Case {
+        name,
+        run: halves(words),
+        count,
+    };
+    vec![
+        case("64 x SLLW", &[0x0020_91BB; 64], 64),
+        case("64-word mix", &long, 64),
+        case("16-word mix", &short, 16),
+        case("a load alone, by a helper", &[ld], 1),
+        case("8 words and a load", &[&unit[..8], &[ld]].concat(), 9),
+        case("MULH first, refused", &[mulh], 0),
+    ]
+}
+
+/// Different runs of so many words, each ended by a jump or branch. In turn they are more than a branch predictor learns.
+pub fn varied(number: usize, words: usize, seed: u64) -> Vec<Vec<u16>> {
+    let mut r = Random::new(seed);
+    let mut run = || {
+        let mut run: Vec<u32> = (1..words).map(|_| words::straight(&mut r)).collect();
+        run.push(words::ending(&mut r));
+        halves(&run)
+    };
+    (0..number).map(|_| run()).collect()
+}
