@@ -2,6 +2,7 @@ pub mod Cases
 pub mod CasesHold
 pub mod Vectors
 pub mod Reached
+pub mod Needed
 pub mod Placing
 pub mod Flags
 pub mod Execute

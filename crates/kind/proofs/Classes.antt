@@ -60,13 +60,17 @@ class-is s low high =
     (λ l. let e : s ≡ 0x20 = omega (arith, h, l, high) in rw e refl)
     (λ l. let e : s ≡ 0x21 = omega (arith, h, l, low, high) in rw e refl))
 
-class-other : (s : ℕ) → s ≢ 0x00 → s ≢ 0x01 → s ≢ 0x20 → s ≢ 0x21 → 4 ≡ classOf s
-class-other s a b c d = rw (ne-eqb s 0x00 a, ne-eqb s 0x01 b, ne-eqb s 0x20 c, ne-eqb s 0x21 d) refl
+other : (s : ℕ) → ((high low : ℕ) → high < 2 → low < 2 → s ≢ 32 * high + low) → 4 ≡ classOf s
+other s h =
+    rw (
+      ne-eqb s 0x00 (h 0 0 (omega arith) (omega arith)),
+      ne-eqb s 0x01 (h 0 1 (omega arith) (omega arith)),
+      ne-eqb s 0x20 (h 1 0 (omega arith) (omega arith)),
+      ne-eqb s 0x21 (h 1 1 (omega arith) (omega arith)),
+    ) refl
 
 pub other-by-low : (s : ℕ) → 1 < s % 32 → 4 ≡ classOf s
-other-by-low s h =
-    class-other s (λ e. omega (arith, e, h)) (λ e. omega (arith, e, h)) (λ e. omega (arith, e, h)) (λ e. omega (arith, e, h))
+other-by-low s more = other s (λ high low h l e. omega (arith, more, h, l, e))
 
 pub other-by-high : (s : ℕ) → 1 < s / 32 → 4 ≡ classOf s
-other-by-high s h =
-    class-other s (λ e. omega (arith, e, h)) (λ e. omega (arith, e, h)) (λ e. omega (arith, e, h)) (λ e. omega (arith, e, h))
+other-by-high s more = other s (λ high low h l e. omega (arith, more, h, l, e))
