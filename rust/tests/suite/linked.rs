@@ -255,48 +255,42 @@ fn ends() -> Vec<(Vec<u16>, usize)> {
     ]
 }
 
-/// Blocks of one to three words that end before, at and across the end of a page, whatever the next page is. What has to be fetched
-/// is counted by hand.
+/// A block that needs so many halfwords, of which so many stand before the end of the page. What has to be seen is worked out by hand.
+fn around_one_end(both: &mut Both, run: &[u16], needed: u64, before: u64, next: Next) {
+    both.each(|emuko| emuko.satp(SATP));
+    let offset = PAGE - 2 * before;
+    let (compiled, after) = both.compile(&paged(run, offset, next), CODE + offset, 64);
+    let crosses = before < needed;
+    let stops = crosses && !matches!(next, Next::Mapped | Next::Accessed);
+    assert!(accessed(&after, 0));
+    let sets = crosses && matches!(next, Next::Mapped | Next::NoMemory);
+    assert_eq!(accessed(&after, 1), sets || next == Next::Accessed);
+    // Where the page has no memory the bus is asked, and traps; of the others that stop it is not.
+    let fetched = match (stops, next) {
+        (false, _) => needed,
+        (true, Next::NoMemory) => before + 1,
+        (true, _) => before,
+    };
+    assert_eq!(fetches(&after).len() as u64, fetched);
+    let last = if stops { before } else { needed - 1 };
+    let access = format!("Some((Fetch, {}, 2))", CODE + offset + 2 * last);
+    assert_eq!(compiled.last_access, access);
+}
+
+/// Blocks of one to three words that end before, at and across the end of a page, whatever the next page is.
 #[test]
 fn around_the_end_of_a_page() {
-    let addi = [0x0093, 0x0050];
     let mut cases = 0;
     for next in NEXT {
         let mut both = Both::new(CODE_SIZE);
-        both.each(|emuko| emuko.satp(SATP));
         for words in 0..3 {
             for (end, needed) in ends() {
-                let mut run = addi.repeat(words);
+                let mut run = [0x0093, 0x0050].repeat(words);
                 run.extend(end);
-                let needed = 2 * words + needed;
+                let needed = (2 * words + needed) as u64;
                 // The page ends behind so many of the run's halfwords, or far behind it.
-                for before in (1..=needed as u64 + 2).chain([100]) {
-                    both.each(|emuko| emuko.satp(SATP));
-                    let offset = PAGE - 2 * before;
-                    let memory = paged(&run, offset, next);
-                    let (compiled, after) = both.compile(&memory, CODE + offset, 64);
-                    let crosses = before < needed as u64;
-                    assert!(accessed(&after, 0));
-                    let mapped = matches!(next, Next::Mapped | Next::Accessed);
-                    let sets = crosses && matches!(next, Next::Mapped | Next::NoMemory);
-                    assert_eq!(accessed(&after, 1), sets || next == Next::Accessed);
-                    // Under NoMemory the bus is asked, and traps; the others are not asked.
-                    let fetched = match (crosses, mapped, next) {
-                        (true, false, Next::NoMemory) => before as usize + 1,
-                        (true, false, _) => before as usize,
-                        _ => needed,
-                    };
-                    assert_eq!(fetches(&after).len(), fetched);
-                    let last = if crosses && !mapped {
-                        before as usize
-                    } else {
-                        needed - 1
-                    };
-                    let addr = CODE + offset + 2 * last as u64;
-                    assert_eq!(
-                        compiled.last_access,
-                        format!("{:?}", Some(("Fetch", addr, 2))).replace("\"Fetch\"", "Fetch")
-                    );
+                for before in (1..=needed + 2).chain([100]) {
+                    around_one_end(&mut both, &run, needed, before, next);
                     cases += 1;
                 }
             }
