@@ -1,3 +1,3 @@
 pub mod Frame
 pub mod Stages
-pub mod Visited
+pub mod EntryToReturn

@@ -5,8 +5,8 @@ pub mod Reached
 pub mod Needed
 pub mod Placing
 pub mod Flags
-pub mod Execute
+pub mod Instructions
 pub mod Faults
 pub mod Example
-pub mod Executed
+pub mod ExampleRuns
 pub mod Witness

@@ -3,5 +3,5 @@ pub mod Host
 pub mod Codec
 pub mod Words
 pub mod Block
-pub mod Turns
+pub mod Theorem
 pub mod Checks

@@ -22,8 +22,8 @@ use Rattle.agreement.specs.X86.Flags.{sext, subFlags, holds, shifted}
 use Rattle.agreement.specs.Translation.Decode32 as Decode32
 use Rattle.agreement.specs.Translation.Kind.{kind, kindNumber}
 use Rattle.agreement.specs.Translation.Needed.{needed}
-use Rattle.agreement.specs.Translation.Walk.{Walked, emit, before, jumps, helps, refusedAt}
-use Rattle.agreement.specs.Translation.Replies.{Block, Reply.block, First.begins, First.refuses, firstWord, outputAfter, translate}
+use Rattle.agreement.specs.Translation.Walk.{Walked, emit, before, jumps, helps, notTakenAt}
+use Rattle.agreement.specs.Translation.Replies.{Block, Reply.block, outputAfter, translate}
 
 -- What the encoder writes decodes to that instruction, whatever follows; what decodes is byte for byte so written.
 
@@ -48,7 +48,7 @@ pub record NamedAlike (w : ℕ) : Type 0 where
 unfoldable pub NamesAlike : Type 0
 NamesAlike = (w : ℕ) → NamedAlike w
 
--- What the number of a word's kind says: how the walk goes on from the word, and whether a block can begin with it.
+-- What the number of a word's kind says: how the walk goes on from the word.
 
 pub record GoesOn (k : Instruction) (pc w : ℕ) : Type 0 where
   pub code : List Instr
@@ -59,14 +59,13 @@ pub record Ends (k : Instruction) (pc w : ℕ) : Type 0 where
   pub ends : (p : Walked) → emit k pc w p ≡ jumps code
 
 unfoldable pub WalksBy : ℕ → Instruction → ℕ → ℕ → Type 0
-WalksBy zero k pc w = (p : Walked) → emit k pc w p ≡ refusedAt pc w
+WalksBy zero k pc w = (p : Walked) → emit k pc w p ≡ notTakenAt pc w
 WalksBy (suc zero) k pc w = GoesOn k pc w
 WalksBy (suc (suc zero)) k pc w = Ends k pc w
 WalksBy (suc (suc (suc n))) k pc w = (p : Walked) → emit k pc w p ≡ helps forAccess w pc
 
 unfoldable pub KindsWalk : Type 0
-KindsWalk = (k : Instruction) (pc w : ℕ)
-    → WalksBy (kindNumber k) k pc w × (firstWord k w ≡ cond (eqb (kindNumber k) 0) (refuses w) begins)
+KindsWalk = (k : Instruction) (pc w : ℕ) → WalksBy (kindNumber k) k pc w
 
 -- A run that was fetched no further than `needed` is translated as the whole run is.
 

@@ -2,5 +2,5 @@ pub mod Common
 pub mod Riscv
 pub mod X86
 pub mod Translation
-pub mod Turns
+pub mod Statement
 pub mod Laws

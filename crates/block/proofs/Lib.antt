@@ -1,8 +1,9 @@
-pub mod Fetching
-pub mod Stepping
-pub mod Beginning
-pub mod Written
-pub mod Looping
-pub mod Replying
-pub mod Reading
-pub mod Turns
+pub mod RunFront
+pub mod WalkStep
+pub mod StraightLength
+pub mod FirstWord
+pub mod WalkWritten
+pub mod WalkLoop
+pub mod ReplyLaws
+pub mod CallerReadsReply
+pub mod CodeAgrees

@@ -2,5 +2,5 @@ pub mod Fetch
 pub mod First
 pub mod Walks
 pub mod Answers
-pub mod Reading
-pub mod Turns
+pub mod CallerReads
+pub mod AgreementInCode

@@ -1,6 +1,6 @@
 // The two fetches of the Rust's loop, from the run of halfwords instead of a bus.
 ghost use mathlib.Core.Path.{_≡_};
-ghost use Prim.Native.Nat.{_+_, _<_};
+ghost use Prim.Native.Nat.{_+_};
 ghost use lib.ListN.{drop};
 ghost use Rattle.block.specs.Fetch.{fetched};
 

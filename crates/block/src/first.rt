@@ -9,14 +9,14 @@ ghost use Rattle.block.specs.First.{firstAs, byNumber};
 pub enum First {
     Begins,
     Lacks(u32),
-    Refuses(u32),
+    Untaken(u32),
 }
 
 fn by_kind(what: WordKind, instr: u32) -> First
     ensures { λ r. ⌜ firstAs r ≡ byNumber (numberOf what) instr ⌝ }
 {
     match what {
-        WordKind::NotTaken => First::Refuses(instr),
+        WordKind::NotTaken => First::Untaken(instr),
         WordKind::Straight => First::Begins,
         WordKind::Ending => First::Begins,
         WordKind::MemoryHelper => First::Begins,

@@ -81,7 +81,7 @@ pub fn translate(
     let first = first::first_word(halfwords);
     match first {
         First::Lacks(index) => Answer::Missing(index),
-        First::Refuses(word) => Answer::NotTaken(word),
+        First::Untaken(word) => Answer::NotTaken(word),
         First::Begins => {
             if out.len() < GREATEST {
                 return Answer::OutputShort;

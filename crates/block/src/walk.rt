@@ -10,7 +10,7 @@ ghost use Rattle.agreement.specs.Translation.Walk.{walk};
 ghost use Rattle.agreement.specs.Translation.Kind.{kind};
 ghost use Rattle.emitter.specs.Written.{Room};
 ghost use Rattle.kind.specs.Numbered.{numberOf};
-ghost use Rattle.words.specs.Word.{endBy, refusedEnd};
+ghost use Rattle.words.specs.Word.{endBy, endAt};
 ghost use Rattle.block.specs.Walks.{Walks, endAs};
 
 // The place behind the words, how many they are, and how the block ends.
@@ -27,7 +27,7 @@ fn stopped(em: X64Emitter, emitted: u32, end: End) -> Walked
     Walked { em, emitted, end }
 }
 
-// At a load or store the memory helper ends the block; at any other word that the emitter refused, the block goes on.
+// At a load or store the memory helper ends the block; at any other word that is not emitted, the block goes on.
 fn end_by_kind(what: WordKind, instr: u32, pc: u64) -> End
     ensures { λ r. ⌜ endAs r ≡ endBy (numberOf what) pc instr ⌝ }
 {
@@ -39,9 +39,9 @@ fn end_by_kind(what: WordKind, instr: u32, pc: u64) -> End
     }
 }
 
-// A word that the emitter refused leaves its bytes and counts nothing.
-fn refused(em: X64Emitter, pc: u64, emitted: u32, instr: u32) -> Walked
-    ensures { λ r. ⌜ (r .em ≡ em) × (r .emitted ≡ emitted) × (endAs (r .end) ≡ refusedEnd (kind instr) pc instr) ⌝ }
+// A word that is not emitted leaves its bytes and counts nothing.
+fn not_emitted(em: X64Emitter, pc: u64, emitted: u32, instr: u32) -> Walked
+    ensures { λ r. ⌜ (r .em ≡ em) × (r .emitted ≡ emitted) × (endAs (r .end) ≡ endAt (kind instr) pc instr) ⌝ }
 {
     stopped(em, emitted, end_by_kind(kind::word_kind(instr), instr, pc))
 }
@@ -79,7 +79,7 @@ pub fn emit_words(
                         emitted += 1;
                     }
                     X64EmitFlow::Terminate => return stopped(next, emitted + 1, End::Jumped),
-                    X64EmitFlow::Refused => return refused(next, pc, emitted, instr),
+                    X64EmitFlow::NotEmitted => return not_emitted(next, pc, emitted, instr),
                 }
             }
         }

@@ -1,1 +1,1 @@
-pub mod Width
+pub mod SignExtendSum

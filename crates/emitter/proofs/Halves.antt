@@ -1,6 +1,6 @@
 -- The eight bytes of a number are the four of its low half and the four of its high half.
 use mathlib.Core.Path.{_≡_, refl, sym, ap, _∙_}
-use mathlib.Core.List.{List, [], _∷_, _++_}
+use mathlib.Core.List.{List, _++_}
 use Prim.Native.Nat.{ℕ, zero, suc, _+_, _*_, _/_, _%_, _^_}
 use native.Mathlib.Omega.{arith}
 use lib.Pow.{field, mod-mod-pow}

@@ -1,3 +1,3 @@
-pub mod Laws
+pub mod WriteLaws
 pub mod Halves
 pub mod Rex

@@ -1,6 +1,5 @@
 -- A rule of all numbers below a bound, by one test that is computed.
-use mathlib.Core.Path.{_≡_, sym, subst}
-use mathlib.Core.Logic.{_≢_}
+use mathlib.Core.Path.{sym, subst}
 use mathlib.Core.Bool.{Bool, true, false}
 use Prim.Native.Nat.{ℕ, zero, suc, _<_}
 use native.Mathlib.Omega.{arith}

@@ -1,3 +1,3 @@
 pub mod Copying
-pub mod Answering
+pub mod PlacingLaws
 pub mod Marked

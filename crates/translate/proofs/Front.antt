@@ -1,17 +1,16 @@
 -- The bytes at the front of the output, as many as an answer says, are the reply's.
-use mathlib.Core.Path.{_≡_, refl, sym, ap, _∙_}
+use mathlib.Core.Path.{_≡_, refl, ap, _∙_}
 use mathlib.Core.List.{List}
-use Prim.Native.Nat.{ℕ, _≤_}
+use Prim.Native.Nat.{ℕ}
 use native.Mathlib.Omega.{arith}
-use lib.ListN.{length, take}
-use lib.Seq.{length-take-le}
+use lib.ListN.{take}
 use Rattle.agreement.specs.Translation.Replies.{Reply}
 use Rattle.io.specs.Counts.{Counts}
 use Rattle.block.specs.Answers.{Answers, Fits}
-use Rattle.block.specs.Reading.{read}
+use Rattle.block.specs.CallerReads.{read}
 use Rattle.block.specs.declared.Answer.{Answer}
 use Rattle.block.specs.declared.Answer.the-variants.{Block, LimitZero, OddStart, Missing, NotTaken, OutputShort}
-use Rattle.block.proofs.Reading.{reads}
+use Rattle.block.proofs.CallerReadsReply.{reads}
 use Rattle.translate.specs.Program.{bytesOf, lengthOf}
 
 front : (r : Answer) (after : List ℕ) → take (lengthOf r) after ≡ bytesOf (read r after)

@@ -2,7 +2,7 @@
 use mathlib.Core.Path.{_≡_, sym, _∙_, subst}
 use mathlib.Core.Logic.{_≢_}
 use mathlib.Core.Bool.{cond}
-use mathlib.Core.List.{List, [], _∷_, _++_}
+use mathlib.Core.List.{List, [], _++_}
 use Prim.Native.Nat.{ℕ, _≤_}
 use native.Mathlib.Omega.{arith}
 use borrow.Author.Tests.{eq-eqb, ne-eqb}
@@ -15,7 +15,7 @@ use Rattle.agreement.proofs.Host.Straight.{bytes-append}
 use Rattle.agreement.proofs.Laws.Length.{len-body-op, len-body-imm}
 use Rattle.emitter.specs.declared.X64Emitter.{X64Emitter}
 use Rattle.emitter.specs.Written.{Wrote, Room}
-use Rattle.emitter.proofs.Laws.{none, _then_, writes}
+use Rattle.emitter.proofs.WriteLaws.{none, _then_, writes}
 use Rattle.words.specs.Word.{Word, Answers, Emits, opBody, opImmBody, storeIf, stored, finished, behind}
 use Rattle.words.specs.declared.X64EmitFlow.{X64EmitFlow}
 use Rattle.words.specs.declared.Emitted.{Emitted}

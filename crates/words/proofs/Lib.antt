@@ -1,5 +1,5 @@
 pub mod Choices
-pub mod Families
+pub mod FamilyMatches
 pub mod Joined
 pub mod Opcodes
-pub mod Walking
+pub mod WalkWords

@@ -1,12 +1,10 @@
 -- The match on the opcode gives every word what the definitions of crate agreement give it.
-use mathlib.Core.Path.{_≡_, refl, sym, ap, _∙_}
+use mathlib.Core.Path.{_≡_, refl}
 use mathlib.Core.Logic.{_≢_}
-use mathlib.Core.Bool.{cond}
 use mathlib.Core.List.{[], _∷_}
 use Prim.Native.Nat.{ℕ, _/_, _%_, _^_, _<_}
 use native.Mathlib.Omega.{arith}
 use borrow.Author.Tests.{ne-eqb}
-use lib.Dec.{eqb}
 use lib.Pow.{mod-mod-pow}
 use Rattle.decode.specs.Decoded.{decoded}
 use Rattle.agreement.specs.Riscv.Fields.{opcode, rd, funct3, rs1, rs2, funct7, funct6, bits, shamt5, shamt6}
@@ -20,8 +18,8 @@ use Rattle.agreement.specs.Translation.Decode32 as Decode32
 use Rattle.agreement.proofs.Laws.Fields.{opcode-is, funct6-of, rd-is, rs1-is, rs2-is, shamt5-is, shamt6-is}
 use Rattle.agreement.proofs.Laws.Immediates.{immI-is, immB-is, immU-is, immJ-is}
 use Rattle.agreement.proofs.Laws.Matches.{decide, kind-is}
-use Rattle.words.proofs.Families.{each-op, each-op-32, each-op-imm, each-op-imm-32, each-branch, each-fence, each-load, each-store}
-use Rattle.words.specs.Word.{Small, wordAs, wordBy, refused, opBody, opImmBody, branchBody, fenceWord, loadPair, finished, behind}
+use Rattle.words.proofs.FamilyMatches.{each-op, each-op-32, each-op-imm, each-op-imm-32, each-branch, each-fence, each-load, each-store}
+use Rattle.words.specs.Word.{Small, wordAs, wordBy, notEmitted, opBody, opImmBody, branchBody, fenceWord, loadPair, finished, behind}
 
 -- OP and OP-32
 abbrev OpIs : ℕ → ℕ → Instruction → Type 0
@@ -53,10 +51,10 @@ branch-taken pc w c = rw (rs1-is w, rs2-is w, immB-is w) refl
 
 -- LOAD and STORE
 abbrev AccessIs : ℕ → ℕ → Instruction → Type 0
-AccessIs pc w k = refused [] ≡ wordAs k pc w
+AccessIs pc w k = notEmitted [] ≡ wordAs k pc w
 
 -- what a word that is not taken leaves, by its opcode
-left : (pc w o : ℕ) → opcode w ≡ o → refused (leftover o (rs1 w) (rs2 w)) ≡ wordAs other pc w
+left : (pc w o : ℕ) → opcode w ≡ o → notEmitted (leftover o (rs1 w) (rs2 w)) ≡ wordAs other pc w
 left pc w o e = rw (opcode-is w, e, rs1-is w, rs2-is w) refl
 
 -- the theorem, opcode by opcode

@@ -6,7 +6,7 @@ use mathlib.Core.Bool.{cond}
 use Prim.Native.Nat.{ℕ, _-_, _*_, _/_, _%_, _^_, _<_}
 use lib.Dec.{eqb}
 use Rattle.agreement.specs.Common.{Helper.forAccess}
-use Rattle.agreement.specs.Riscv.Instruction.{Instruction, Instruction.op, Instruction.opImm, Instruction.branch, Instruction.access, Instruction.unmodelled, Instruction.LUI, Instruction.AUIPC, Instruction.JAL, Instruction.JALR, Instruction.FENCE, Instruction.FENCE·I, Instruction.other}
+use Rattle.agreement.specs.Riscv.Instruction.{Op, OpImm, Branch, Instruction, Instruction.op, Instruction.opImm, Instruction.branch, Instruction.access, Instruction.unmodelled, Instruction.LUI, Instruction.AUIPC, Instruction.JAL, Instruction.JALR, Instruction.FENCE, Instruction.FENCE·I, Instruction.other}
 use Rattle.agreement.specs.X86.Form.{RAX, RCX, RDX, RBX, RBP, RSI, RDI, R8, R9, R10, R11, R12, R13, R14, R15, Cc, Alu.add, Alu.and, Instr, Instr.push, Instr.pop, Instr.mov, Instr.callRax, Instr.ret, Instr.movImm64, Instr.store, Instr.aluImm32, Instr.cmov}
 use Rattle.agreement.specs.X86.Encode.{bytes}
 use Rattle.agreement.specs.Translation.Decode32.{opcode, rd, rs1, rs2, imm32, shamt, shamtW, immU, immB, immJ, wrappingAdd}
@@ -18,7 +18,7 @@ use Rattle.decode.specs.declared.Decoded32.{Decoded32}
 use Rattle.emitter.specs.declared.X64Emitter.{X64Emitter}
 use Rattle.emitter.specs.Written.{Wrote}
 use Rattle.words.specs.declared.X64EmitFlow.{X64EmitFlow}
-use Rattle.words.specs.declared.X64EmitFlow.the-variants.{Continue, Terminate, Refused}
+use Rattle.words.specs.declared.X64EmitFlow.the-variants.{Continue, Terminate, NotEmitted}
 use Rattle.words.specs.declared.Emitted.{Emitted}
 
 pub record Word : Type 0 where
@@ -31,8 +31,8 @@ goesOn is = record { flow = Continue; code = is }
 abbrev pub ends : List Instr → Word
 ends is = record { flow = Terminate; code = is }
 
-abbrev pub refused : List Instr → Word
-refused is = record { flow = Refused; code = is }
+abbrev pub notEmitted : List Instr → Word
+notEmitted is = record { flow = NotEmitted; code = is }
 
 -- the word w at pc
 abbrev pub wordAs : Instruction → ℕ → ℕ → Word
@@ -45,16 +45,16 @@ wordAs FENCE·I pc w = goesOn []
 wordAs (branch c) pc w = ends (codeBranch c (rs1 w) (rs2 w) (wrappingAdd pc 4) (wrappingAdd pc (immB w)))
 wordAs JAL pc w = ends (codeJal (rd w) (wrappingAdd pc 4) (wrappingAdd pc (immJ w)))
 wordAs JALR pc w = ends (codeJalr (rd w) (rs1 w) (imm32 w) (wrappingAdd pc 4))
-wordAs (access a) pc w = refused []
-wordAs (unmodelled u) pc w = refused (leftover (opcode w) (rs1 w) (rs2 w))
-wordAs other pc w = refused (leftover (opcode w) (rs1 w) (rs2 w))
+wordAs (access a) pc w = notEmitted []
+wordAs (unmodelled u) pc w = notEmitted (leftover (opcode w) (rs1 w) (rs2 w))
+wordAs other pc w = notEmitted (leftover (opcode w) (rs1 w) (rs2 w))
 
--- how a block ends at a word that the emitter refused, by the number of its kind: the Rust tries `emit_native_term_mem_helper_x64`
+-- how a block ends at a word that is not emitted, by the number of its kind: the Rust tries `emit_native_term_mem_helper_x64`
 abbrev pub endBy : ℕ → ℕ → ℕ → End
 endBy n pc w = cond (eqb n 3) (calls forAccess w pc) (End.goesOn pc)
 
-abbrev pub refusedEnd : Instruction → ℕ → ℕ → End
-refusedEnd k pc w = endBy (kindNumber k) pc w
+abbrev pub endAt : Instruction → ℕ → ℕ → End
+endAt k pc w = endBy (kindNumber k) pc w
 
 -- the answer of a word: how the block goes on, and the emitter behind what was written
 pub record Answers (f : X64EmitFlow) (em : X64Emitter) (e : Emitted) : Type 0 where
@@ -66,41 +66,34 @@ pub record Emits (before : List ℕ) (at : ℕ) (w : Word) (after : List ℕ) (e
   pub flows : e .flow ≡ w .flow
   pub wrote : Wrote before at (bytes (w .code)) after (e .em .at)
 
+-- what a family of words has, by the instruction that its match gives: OP, OP-IMM, BRANCH, MISC-MEM; all else is not emitted
+abbrev pub byFamily : (Op → Word) → (OpImm → Word) → (Branch → Word) → Word → Instruction → Word
+byFamily f g h e (op o) = f o
+byFamily f g h e (opImm o) = g o
+byFamily f g h e (branch c) = h c
+byFamily f g h e FENCE = e
+byFamily f g h e FENCE·I = e
+byFamily f g h e (access a) = notEmitted []
+byFamily f g h e (unmodelled u) = notEmitted []
+byFamily f g h e LUI = notEmitted []
+byFamily f g h e AUIPC = notEmitted []
+byFamily f g h e JAL = notEmitted []
+byFamily f g h e JALR = notEmitted []
+byFamily f g h e other = notEmitted []
+
 -- the part of OP and OP-32 that works on R10 and R11
 abbrev pub opBody : Instruction → Word
-opBody (op o) = goesOn (bodyOp o)
-opBody (opImm o) = refused []
-opBody (branch c) = refused []
-opBody (access a) = refused []
-opBody (unmodelled u) = refused []
-opBody LUI = refused []
-opBody AUIPC = refused []
-opBody JAL = refused []
-opBody JALR = refused []
-opBody FENCE = refused []
-opBody FENCE·I = refused []
-opBody other = refused []
+opBody k = byFamily (λ o. goesOn (bodyOp o)) (λ _. notEmitted []) (λ _. notEmitted []) (notEmitted []) k
 
 -- the part of OP-IMM and OP-IMM-32 that works on R10
 abbrev pub opImmBody : Instruction → ℕ → ℕ → ℕ → Word
-opImmBody (opImm o) i c d = goesOn (bodyOpImm o i c d)
-opImmBody (op o) i c d = refused []
-opImmBody (branch b) i c d = refused []
-opImmBody (access a) i c d = refused []
-opImmBody (unmodelled u) i c d = refused []
-opImmBody LUI i c d = refused []
-opImmBody AUIPC i c d = refused []
-opImmBody JAL i c d = refused []
-opImmBody JALR i c d = refused []
-opImmBody FENCE i c d = refused []
-opImmBody FENCE·I i c d = refused []
-opImmBody other i c d = refused []
+opImmBody k i c d = byFamily (λ _. notEmitted []) (λ o. goesOn (bodyOpImm o i c d)) (λ _. notEmitted []) (notEmitted []) k
 
 -- the store of the result, where the word goes on
 abbrev pub storeIf : ℕ → X64EmitFlow → List Instr
 storeIf r Continue = storeReg r R10
 storeIf r Terminate = []
-storeIf r Refused = []
+storeIf r NotEmitted = []
 
 -- the store behind a body that answers f; the word answers the same
 abbrev pub stored : ℕ → X64EmitFlow → Word
@@ -143,18 +136,8 @@ abbrev pub select : Cc → ℕ → ℕ → List Instr
 select c next target = movImm64 R11 next ∷ movImm64 RAX target ∷ cmov c R11 RAX ∷ mov RAX R11 ∷ []
 
 abbrev pub branchBody : Instruction → ℕ → ℕ → Word
-branchBody (branch c) next target = ends (select (ccFor c) next target)
-branchBody (op o) next target = refused []
-branchBody (opImm o) next target = refused []
-branchBody (access a) next target = refused []
-branchBody (unmodelled u) next target = refused []
-branchBody LUI next target = refused []
-branchBody AUIPC next target = refused []
-branchBody JAL next target = refused []
-branchBody JALR next target = refused []
-branchBody FENCE next target = refused []
-branchBody FENCE·I next target = refused []
-branchBody other next target = refused []
+branchBody k next target =
+    byFamily (λ _. notEmitted []) (λ _. notEmitted []) (λ c. ends (select (ccFor c) next target)) (notEmitted []) k
 
 -- BRANCH by the fields d
 abbrev pub branchWord : Decoded32 → ℕ → ℕ → Word
@@ -170,18 +153,7 @@ jalrLink r link = cond (eqb r 0) [] (movImm64 R11 link ∷ store RBX (8 * r) R11
 
 -- MISC-MEM
 abbrev pub fenceWord : Instruction → Word
-fenceWord FENCE = goesOn []
-fenceWord FENCE·I = goesOn []
-fenceWord (op o) = refused []
-fenceWord (opImm o) = refused []
-fenceWord (branch c) = refused []
-fenceWord (access a) = refused []
-fenceWord (unmodelled u) = refused []
-fenceWord LUI = refused []
-fenceWord AUIPC = refused []
-fenceWord JAL = refused []
-fenceWord JALR = refused []
-fenceWord other = refused []
+fenceWord k = byFamily (λ _. notEmitted []) (λ _. notEmitted []) (λ _. notEmitted []) (goesOn []) k
 
 -- the registers and the immediate are as narrow as their fields
 pub record Small (d : Decoded32) : Type 0 where
@@ -203,7 +175,7 @@ wordBy pc w d =
     cond (eqb (d .opcode) 0x33) (opWord d) (
     cond (eqb (d .opcode) 0x3B) (op32Word d) (
     cond (eqb (d .opcode) 0x0F) (fenceWord (kindFence (d .funct3)))
-    (refused []))))))))))
+    (notEmitted []))))))))))
 
 -- the first part of `opening`, up to the stack pointer's 8 bytes
 abbrev pub pushes : List Instr

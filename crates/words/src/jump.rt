@@ -1,7 +1,7 @@
 // The arms OPCODE_JAL, OPCODE_JALR and OPCODE_BRANCH: words that end a block, with the next pc in RAX.
 use crate::Emitted;
 use crate::ends;
-use crate::refused;
+use crate::not_emitted;
 use crate::slots::x64_emit_const;
 use crate::slots::x64_emit_load_pair;
 use crate::slots::x64_emit_load_reg;
@@ -81,7 +81,7 @@ fn branch_on_flags(em: X64Emitter, out: &mut [u8], funct3: u8, next: u64, target
         isa::F3_BGE => ends(branch_select(em, out, next, target, X64Cc::GE)),
         isa::F3_BLTU => ends(branch_select(em, out, next, target, X64Cc::B)),
         isa::F3_BGEU => ends(branch_select(em, out, next, target, X64Cc::AE)),
-        _ => refused(em),
+        _ => not_emitted(em),
     }
 }
 
@@ -94,7 +94,7 @@ fn branch_compare(em: X64Emitter, out: &mut [u8], rs1: u8, rs2: u8) -> X64Emitte
     a.cmp_r64_r64(out, X64Emitter::R10, X64Emitter::R11)
 }
 
-// BRANCH: a reserved funct3 is refused behind the comparison.
+// BRANCH: a reserved funct3 is not taken, behind the comparison.
 pub fn branch_word(em: X64Emitter, out: &mut [u8], d: Decoded32, next: u64, target: u64) -> Emitted
     requires { ⌜ Small d × Room (now out) (em .at) 44 ⌝ }
     ensures { λ r. ⌜ Emits (now (out .entry)) (em .at) (branchWord d next target) (now (out .exit)) r ⌝ }

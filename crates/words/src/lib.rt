@@ -19,13 +19,13 @@ ghost use Prim.Native.Nat.{_%_, _^_};
 ghost use Rattle.agreement.specs.Riscv.Immediates.{immI};
 ghost use Rattle.agreement.specs.Translation.Kind.{kind, kindFence};
 ghost use Rattle.emitter.specs.Written.{Room};
-ghost use Rattle.words.specs.declared.X64EmitFlow.the-variants.{Continue, Terminate, Refused};
+ghost use Rattle.words.specs.declared.X64EmitFlow.the-variants.{Continue, Terminate, NotEmitted};
 ghost use Rattle.words.specs.Word.{Answers, Emits, wordAs, fenceWord, Small, wordBy};
 
 pub enum X64EmitFlow {
     Continue,
     Terminate,
-    Refused,
+    NotEmitted,
 }
 
 // How the block goes on, and the place behind what was written.
@@ -54,12 +54,12 @@ fn ends(em: X64Emitter) -> Emitted
     }
 }
 
-// The word is not taken.
-fn refused(em: X64Emitter) -> Emitted
-    ensures { λ r. ⌜ Answers Refused em r ⌝ }
+// The Rust's `None`: no code for the word, but for the loads in front of its test. It is not taken, or a load or store.
+fn not_emitted(em: X64Emitter) -> Emitted
+    ensures { λ r. ⌜ Answers NotEmitted em r ⌝ }
 {
     Emitted {
-        flow: X64EmitFlow::Refused,
+        flow: X64EmitFlow::NotEmitted,
         em,
     }
 }
@@ -78,7 +78,7 @@ fn fence_word(em: X64Emitter, out: &mut [u8], funct3: u8) -> Emitted
     match funct3 {
         isa::F3_FENCE => goes_on(em),
         isa::F3_FENCE_I => goes_on(em),
-        _ => refused(em),
+        _ => not_emitted(em),
     }
 }
 
@@ -113,7 +113,7 @@ fn emit_by_opcode(em: X64Emitter, out: &mut [u8], pc: u64, instr: u32, d: Decode
         isa::OPCODE_OP => op::op_word(em, out, d),
         isa::OPCODE_OP_32 => op::op_32_word(em, out, d),
         isa::OPCODE_MISC_MEM => fence_word(em, out, d.funct3),
-        _ => refused(em),
+        _ => not_emitted(em),
     }
 }
 

@@ -1,7 +1,7 @@
 // The arms OPCODE_OP and OPCODE_OP_32. The Rust matches on the pair of funct7 and funct3; here on funct7, then on funct3.
 use crate::Emitted;
 use crate::goes_on;
-use crate::refused;
+use crate::not_emitted;
 use crate::result::set_flag;
 use crate::result::sign_extended;
 use crate::result::store_rd;
@@ -43,7 +43,7 @@ fn op_base(em: X64Emitter, out: &mut [u8], funct3: u8) -> Emitted
         }
         isa::F3_OR => goes_on(em.or_r64_r64(out, X64Emitter::R10, X64Emitter::R11)),
         isa::F3_AND => goes_on(em.and_r64_r64(out, X64Emitter::R10, X64Emitter::R11)),
-        _ => refused(em),
+        _ => not_emitted(em),
     }
 }
 
@@ -58,7 +58,7 @@ fn op_sub_sra(em: X64Emitter, out: &mut [u8], funct3: u8) -> Emitted
             let a = em.mov_r64_r64(out, X64Emitter::RCX, X64Emitter::R11);
             goes_on(a.sar_r64_cl(out, X64Emitter::R10))
         }
-        _ => refused(em),
+        _ => not_emitted(em),
     }
 }
 
@@ -69,7 +69,7 @@ fn op_muldiv(em: X64Emitter, out: &mut [u8], funct3: u8) -> Emitted
 {
     match funct3 {
         isa::F3_ADD_SUB => goes_on(em.imul_r64_r64(out, X64Emitter::R10, X64Emitter::R11)),
-        _ => refused(em),
+        _ => not_emitted(em),
     }
 }
 
@@ -82,7 +82,7 @@ fn op_on_r10(em: X64Emitter, out: &mut [u8], funct3: u8, funct7: u8) -> Emitted
         isa::F7_BASE => op_base(em, out, funct3),
         isa::F7_SUB_SRA => op_sub_sra(em, out, funct3),
         isa::F7_MULDIV => op_muldiv(em, out, funct3),
-        _ => refused(em),
+        _ => not_emitted(em),
     }
 }
 
@@ -113,7 +113,7 @@ fn op_32_base(em: X64Emitter, out: &mut [u8], funct3: u8) -> Emitted
             let a = count32(em, out);
             sign_extended(a.shr_r32_cl(out, X64Emitter::R10), out)
         }
-        _ => refused(em),
+        _ => not_emitted(em),
     }
 }
 
@@ -131,7 +131,7 @@ fn op_32_sub_sra(em: X64Emitter, out: &mut [u8], funct3: u8) -> Emitted
             let a = count32(em, out);
             sign_extended(a.sar_r32_cl(out, X64Emitter::R10), out)
         }
-        _ => refused(em),
+        _ => not_emitted(em),
     }
 }
 
@@ -145,7 +145,7 @@ fn op_32_muldiv(em: X64Emitter, out: &mut [u8], funct3: u8) -> Emitted
             let a = em.imul_r32_r32(out, X64Emitter::R10, X64Emitter::R11);
             sign_extended(a, out)
         }
-        _ => refused(em),
+        _ => not_emitted(em),
     }
 }
 
@@ -158,7 +158,7 @@ fn op_32_on_r10(em: X64Emitter, out: &mut [u8], funct3: u8, funct7: u8) -> Emitt
         isa::F7_BASE => op_32_base(em, out, funct3),
         isa::F7_SUB_SRA => op_32_sub_sra(em, out, funct3),
         isa::F7_MULDIV => op_32_muldiv(em, out, funct3),
-        _ => refused(em),
+        _ => not_emitted(em),
     }
 }
 

@@ -1,7 +1,7 @@
 // The arms OPCODE_OP_IMM and OPCODE_OP_IMM_32. A shift is taken by the bits above its amount.
 use crate::Emitted;
 use crate::goes_on;
-use crate::refused;
+use crate::not_emitted;
 use crate::result::set_flag;
 use crate::result::sign_extended;
 use crate::result::store_rd;
@@ -31,14 +31,14 @@ fn op_imm_on_r10(em: X64Emitter, out: &mut [u8], d: Decoded32, imm: u32) -> Emit
         isa::F3_AND => goes_on(em.and_r64_imm32(out, X64Emitter::R10, imm)),
         isa::F3_SLL => match imm_hi {
             0x00 => goes_on(em.shl_r64_imm8(out, X64Emitter::R10, shamt)),
-            _ => refused(em),
+            _ => not_emitted(em),
         },
         isa::F3_SRL_SRA => match imm_hi {
             0x00 => goes_on(em.shr_r64_imm8(out, X64Emitter::R10, shamt)),
             0x10 => goes_on(em.sar_r64_imm8(out, X64Emitter::R10, shamt)),
-            _ => refused(em),
+            _ => not_emitted(em),
         },
-        _ => refused(em),
+        _ => not_emitted(em),
     }
 }
 
@@ -54,14 +54,14 @@ fn op_imm_32_on_r10(em: X64Emitter, out: &mut [u8], d: Decoded32, imm: u32) -> E
         isa::F3_ADD_SUB => sign_extended(em.add_r64_imm32(out, X64Emitter::R10, imm), out),
         isa::F3_SLL => match funct7 {
             isa::F7_BASE => sign_extended(em.shl_r32_imm8(out, X64Emitter::R10, shamt), out),
-            _ => refused(em),
+            _ => not_emitted(em),
         },
         isa::F3_SRL_SRA => match funct7 {
             isa::F7_BASE => sign_extended(em.shr_r32_imm8(out, X64Emitter::R10, shamt), out),
             isa::F7_SUB_SRA => sign_extended(em.sar_r32_imm8(out, X64Emitter::R10, shamt), out),
-            _ => refused(em),
+            _ => not_emitted(em),
         },
-        _ => refused(em),
+        _ => not_emitted(em),
     }
 }
 

@@ -19,7 +19,7 @@ use Rattle.agreement.proofs.Host.Fetching.{one}
 use Rattle.agreement.proofs.Host.Memory.{read-other, read-write, write-out}
 use Rattle.agreement.proofs.Host.Straight.{Kept, Safe, all-append, all-span, run, safe-append, trace}
 use Rattle.agreement.proofs.Laws.Tests.{leb-true}
-use Rattle.agreement.proofs.Turns.Replying.{Replied.out}
+use Rattle.agreement.proofs.Theorem.RefusedAlike.{Replied.out}
 
 -- 1. Eight bytes of the stack
 

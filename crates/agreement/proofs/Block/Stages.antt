@@ -9,7 +9,7 @@ use native.Mathlib.Omega.{arith}
 use lib.ListN.{length, length-append}
 use Rattle.agreement.specs.Riscv.Run.{Registers, does}
 use Rattle.agreement.specs.Translation.Emit.{closing, opening}
-use Rattle.agreement.specs.Turns.Premises.{Apart}
+use Rattle.agreement.specs.Statement.Premises.{Apart}
 use Rattle.agreement.specs.X86.Decode.{Operand.mem}
 use Rattle.agreement.specs.X86.Encode.{bytes, encode}
 use Rattle.agreement.specs.X86.Execute.{accesses, exec}

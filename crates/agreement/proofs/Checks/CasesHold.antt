@@ -2,8 +2,6 @@
 use mathlib.Core.Path.{_≡_, refl}
 use mathlib.Core.Bool.{true}
 use Rattle.agreement.specs.Riscv.Immediates as Manual
-use Rattle.agreement.specs.X86.Memory.{bytesOf}
-use Rattle.agreement.specs.X86.Encode.{rex, modReg, modMem, encode}
 use Rattle.agreement.specs.Translation.Decode32 as Decode32
 use Rattle.agreement.specs.Translation.Kind.{match, kindOp, kindOp32, kindOpImm, kindOpImm32, kindBranch, kindLoad, kindStore, kindFence, kindOf, kind}
 use Rattle.agreement.specs.Translation.Emit.{leftover}

@@ -9,7 +9,7 @@ use lib.Dec.{leb, ltb}
 use Rattle.agreement.specs.X86.Memory.{at, read, write}
 use Rattle.agreement.specs.X86.Form.{RAX, RDX, RSP}
 use Rattle.agreement.specs.X86.State.{Flags, State, Permissions, set}
-use Rattle.agreement.specs.Turns.Machine.{RegisterBytes, Turn}
+use Rattle.agreement.specs.Statement.Machine.{RegisterBytes, Turn}
 use Rattle.agreement.proofs.Checks.Cases.{words}
 
 -- the n addresses from a

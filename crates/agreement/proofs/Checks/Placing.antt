@@ -1,12 +1,11 @@
 -- Placing, and what a refusal leaves: further vectors of the definitions.
-use mathlib.Core.Bool.{Bool, _&&_, true}
+use mathlib.Core.Bool.{_&&_, true}
 use mathlib.Core.List.{List, [], _∷_}
 use mathlib.Core.Path.{_≡_, refl}
 use Prim.Native.Nat.{ℕ}
 use lib.Dec.{eqb}
-use lib.ListN.{drop, take}
 use Rattle.agreement.proofs.Checks.Cases.{Case, Case.placing, equal, every, holds}
-use Rattle.agreement.specs.Translation.Place.{Placing, Placing.beyond, Placing.full, Placing.placed, markAfter, place, placingNumbered, storeAfter}
+use Rattle.agreement.specs.Translation.Place.{Placing.beyond, Placing.full, markAfter, place, placingNumbered, storeAfter}
 use Rattle.agreement.specs.Translation.Replies.{Refusal, Reply.refusal, outputAfter}
 
 -- up to a multiple of 4 and no further; nothing to place; used 5, store 5, empty code: 8 is past 5; used beyond the store

@@ -9,7 +9,7 @@ use Rattle.agreement.proofs.Checks.Cases.{Format.I, Format.S, Format.B,
 use Rattle.agreement.proofs.Checks.CasesHold.{immediates, translations, tests}
 
 -- a word translated alone at 0x80000000, with its n bytes: it goes on, it ends the block, it ends in a helper's call;
--- a word that goes on and has no bytes; a refused word behind an ADDI, with the n bytes that it leaves, or none;
+-- a word that goes on and has no bytes; a word not taken behind an ADDI, with the n bytes that it leaves, or none;
 -- a run of halfwords, the output's length, and the whole reply;
 -- the I, S, B, U and J immediate of a word, by both definitions
 data Vector : Type 0 where
@@ -136,7 +136,7 @@ each-word =
 -- leftovers, helper ends, refusals, limits, the end of the address space
 runs : List Vector
 runs =
-    -- what a refused word leaves behind an ADDI
+    -- what a word that is not taken leaves behind an ADDI
     leaves 0x05F32063 17 0x4C8B9330000000_4C8B9BF8000000_4D39DA  -- BRANCH funct3 2
     ∷ leaves 0x046FB063 17 0x4C8B93F8000000_4C8B9B30000000_4D39DA  -- BRANCH funct3 3
     ∷ leaves 0x027F41B3 14 0x4C8B93F0000000_4C8B9B38000000  -- OP: DIV

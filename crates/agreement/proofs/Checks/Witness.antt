@@ -12,9 +12,9 @@ use Rattle.agreement.specs.Laws.{Lengths}
 use Rattle.agreement.specs.Riscv.Instruction.{branches, find, findIn, threeIs, topIs, valueOpImm}
 use Rattle.agreement.specs.Riscv.Run.{GuestState, Registers, Stop.called, Stop.plain, does, firstRefused, isLong, isNotTaken, manual, reading, refused, taken, turn, writeX}
 use Rattle.agreement.specs.Translation.Replies.{Block, Reply.block, translate}
-use Rattle.agreement.specs.Turns.Agreement.{Agreement, Agrees, Along, At, feed, feedOf, feeds, isRefused, start}
-use Rattle.agreement.specs.Turns.Machine.{Event, Event.visited, History, History.end, History.then, RegisterBytes, Turn, Turned, Visit, reply, since}
-use Rattle.agreement.specs.Turns.Premises.{Enterable, Halfwords, Keeps, Layout, Premises, Typed}
+use Rattle.agreement.specs.Statement.Agreement.{Agreement, Agrees, Along, At, feed, feedOf, feeds, isRefused, start}
+use Rattle.agreement.specs.Statement.Machine.{Event, Event.visited, History, History.end, History.then, RegisterBytes, Turn, Turned, Visit, reply, since}
+use Rattle.agreement.specs.Statement.Premises.{Enterable, Halfwords, Keeps, Layout, Premises, Typed}
 use Rattle.agreement.specs.X86.Form.{RDX}
 use Rattle.agreement.specs.X86.Memory.{Memory, at, read, write}
 use Rattle.agreement.specs.X86.State.{State}
@@ -23,9 +23,9 @@ use Rattle.agreement.proofs.Checks.Cases.{words}
 use Rattle.agreement.proofs.Checks.Example.{firstPc, fiveTurns, halfwordTurn, helperTurn, leaves, plainTurn, range, refusedTurn, threeTurns, turnOf, zeros}
 use Rattle.agreement.proofs.Host.Memory.{read-other, read-write, write-out}
 use Rattle.agreement.proofs.Laws.Length.{lengths}
-use Rattle.agreement.proofs.Turns.Agreement.{agreement}
-use Rattle.agreement.proofs.Turns.Consequences.{Helping, after-helper, after-plain, after-refused, afterHelper, afterPlain, readAs}
-use Rattle.agreement.proofs.Turns.Visiting.{between, or-left, or-right}
+use Rattle.agreement.proofs.Theorem.Agreement.{agreement}
+use Rattle.agreement.proofs.Theorem.Consequences.{Helping, after-helper, after-plain, after-refused, afterHelper, afterPlain, readAs}
+use Rattle.agreement.proofs.Theorem.OneTurn.{between, or-left, or-right}
 use Rattle.agreement.specs.Riscv.Immediates as Manual
 
 -- 1. The layout and the helpers keep document 01's premises

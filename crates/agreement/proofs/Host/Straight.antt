@@ -9,7 +9,7 @@ use native.Mathlib.Omega.{arith}
 use lib.Dec.{T}
 use lib.ListN.{length, length-append}
 use lib.Pow.{low}
-use Rattle.agreement.specs.Turns.Agreement.{after}
+use Rattle.agreement.specs.Statement.Agreement.{after}
 use Rattle.agreement.specs.X86.Encode.{bytes, encode}
 use Rattle.agreement.specs.X86.Execute.{accesses, below, exec, operand}
 use Rattle.agreement.specs.X86.Form.{Instr, Instr.alu, Instr.aluImm32, Instr.aluImm8, Instr.callRax, Instr.cmov, Instr.imul, Instr.load, Instr.mov, Instr.movImm64, Instr.movsxd, Instr.movzx, Instr.pop, Instr.push, Instr.ret, Instr.setccAl, Instr.shiftCl, Instr.shiftImm8, Instr.store, Ok}

@@ -1,4 +1,4 @@
--- What holds of each kind of leftover holds of what a refused word leaves.
+-- What holds of each kind of leftover holds of what a word that is not taken leaves.
 use mathlib.Core.Bool.{Bool, cond, false, true}
 use mathlib.Core.List.{List, [], _∷_}
 use Prim.Native.Nat.{ℕ}

@@ -13,12 +13,11 @@ use Rattle.agreement.specs.Riscv.Fields.{plus}
 use Rattle.agreement.specs.Riscv.Instruction.{Branch, Instruction, Instruction.AUIPC, Instruction.FENCE, Instruction.FENCE·I, Instruction.JAL, Instruction.JALR, Instruction.LUI, Instruction.access, Instruction.branch, Instruction.op, Instruction.opImm, Instruction.other, Instruction.unmodelled, Op, Op.ADD, Op.ADDW, Op.AND, Op.MUL, Op.MULW, Op.OR, Op.SLL, Op.SLLW, Op.SLT, Op.SLTU, Op.SRA, Op.SRAW, Op.SRL, Op.SRLW, Op.SUB, Op.SUBW, Op.XOR, OpImm, OpImm.ADDI, OpImm.ADDIW, OpImm.ANDI, OpImm.ORI, OpImm.SLLI, OpImm.SLLIW, OpImm.SLTI, OpImm.SLTIU, OpImm.SRAI, OpImm.SRAIW, OpImm.SRLI, OpImm.SRLIW, OpImm.XORI}
 use Rattle.agreement.specs.Translation.Emit.{bodyOp, bodyOpImm, closing, codeBranch, codeConst, codeJal, codeJalr, codeOp, codeOpImm, compare, leftover, loadReg, opening, passes, storeReg}
 use Rattle.agreement.specs.Translation.Kind.{kind}
-use Rattle.agreement.specs.Translation.Replies.{Block, First, First.begins, First.lacks, First.refuses, Refusal, Refusal.limitZero, Refusal.oddStart, Refusal.outputShort, Reply, Reply.block, Reply.refusal, blockOf, byFirst, first, translate, walked}
-use Rattle.agreement.specs.Translation.Walk.{End, End.calls, End.goesOn, End.jumped, Walked, before, emit, ending, helperAt, helps, instrs, jumps, refusedAt, stopsAt, walk}
-use Rattle.agreement.specs.Turns.Agreement.{start}
-use Rattle.agreement.specs.X86.Encode.{bytes, encode, modMem, modReg, rex}
+use Rattle.agreement.specs.Translation.Replies.{Block, First, First.begins, First.lacks, First.untaken, Refusal, Refusal.limitZero, Refusal.oddStart, Refusal.outputShort, Reply, Reply.block, Reply.refusal, blockOf, byFirst, first, translate, walked}
+use Rattle.agreement.specs.Translation.Walk.{End, End.calls, End.goesOn, End.jumped, Walked, before, emit, ending, helperAt, helps, instrs, jumps, notTakenAt, stopsAt, walk}
+use Rattle.agreement.specs.Statement.Agreement.{start}
+use Rattle.agreement.specs.X86.Encode.{bytes}
 use Rattle.agreement.specs.X86.Form.{Alu.add, Alu.and, Instr, Instr.aluImm32, Instr.callRax, Instr.mov, Instr.movImm64, Instr.ret, Instr.store, R10, R11, RAX, RBX, RDX}
-use Rattle.agreement.specs.X86.Memory.{bytesOf}
 use Rattle.agreement.proofs.Host.Straight.{bytes-append}
 use Rattle.agreement.proofs.Laws.Leftover.{leftover-by}
 use Rattle.agreement.specs.Translation.Decode32 as Decode32
@@ -150,9 +149,9 @@ sized-jumps : (n : ℕ) (is : List Instr) → 10 ≤ len is → len is ≤ 44 �
 unfolding least most
 sized-jumps n is l k = record { low = omega arith; high = omega arith }
 
-sized-refused : (n pc w : ℕ) → Sized (suc n) (refusedAt pc w)
+sized-not-taken : (n pc w : ℕ) → Sized (suc n) (notTakenAt pc w)
 unfolding least most
-sized-refused n pc w =
+sized-not-taken n pc w =
     let l = len-leftover (Decode32.opcode w) (Decode32.rs1 w) (Decode32.rs2 w) in
     record { low = omega arith; high = omega arith }
 
@@ -189,8 +188,8 @@ sized-emit JALR n pc w p s =
     let l = len-jalr (Decode32.rd w) (Decode32.rs1 w) (Decode32.imm32 w) (plus pc 4) in
     sized-jumps n (codeJalr (Decode32.rd w) (Decode32.rs1 w) (Decode32.imm32 w) (plus pc 4)) (l .0) (omega (arith, l .1))
 sized-emit (access a) n pc w p s = sized-helps n forAccess w pc
-sized-emit (unmodelled o) n pc w p s = sized-refused n pc w
-sized-emit other n pc w p s = sized-refused n pc w
+sized-emit (unmodelled o) n pc w p s = sized-not-taken n pc w
+sized-emit other n pc w p s = sized-not-taken n pc w
 
 pub sized : (n pc : ℕ) (hs : List ℕ) → Sized n (walk n pc hs)
 unfolding walk
@@ -262,7 +261,7 @@ the-block start limit hs h1 h2 room b e = go (eqb limit 0) (eqb (start % 2) 1) (
     go true y f e = no e
     go false true f e = no e
     go false false (lacks i) e = no e
-    go false false (refuses w) e = no e
+    go false false (untaken w) e = no e
     go false false begins e = last (ltb room greatest) e
 
 pub lengths : Lengths

@@ -1,7 +1,7 @@
 -- What the number of a word's kind says of the walk, and that a run fetched by it is long enough.
 use mathlib.Core.Path.{_≡_, refl, ap, _∙_}
 use mathlib.Core.Logic.{_≢_}
-use mathlib.Core.Bool.{Bool, true, false, cond}
+use mathlib.Core.Bool.{Bool, true, false}
 use mathlib.Core.List.{List, [], _∷_}
 use Prim.Native.Nat.{ℕ, zero, suc, min, _%_}
 use native.Mathlib.Omega.{arith}
@@ -14,24 +14,24 @@ use Rattle.agreement.specs.Translation.Kind.{kind, kindNumber}
 use Rattle.agreement.specs.Translation.Needed.{needed}
 use Rattle.agreement.specs.Translation.Emit.{codeOp, codeOpImm, codeConst}
 use Rattle.agreement.specs.Translation.Walk.{Walked, walk, emit}
-use Rattle.agreement.specs.Translation.Replies.{First, Reply, Reply.refusal, Refusal.limitZero, Refusal.oddStart, first, firstWord, byFirst, blockOf, translate}
+use Rattle.agreement.specs.Translation.Replies.{First, Reply, Reply.refusal, Refusal.limitZero, Refusal.oddStart, first, byFirst, blockOf, translate}
 use Rattle.agreement.specs.Laws.{KindsWalk, WalksBy, NeedsNoMore}
 use Rattle.agreement.proofs.Laws.Matches.{decide}
 
 pub kinds-walk : KindsWalk
-unfolding KindsWalk WalksBy emit firstWord
-kinds-walk (op o) pc w = (record { code = codeOp o (rd w) (rs1 w) (rs2 w); on = λ p. refl }, refl)
-kinds-walk (opImm o) pc w = (record { code = codeOpImm o (rd w) (rs1 w) (imm32 w) (shamt w) (shamtW w); on = λ p. refl }, refl)
-kinds-walk LUI pc w = (record { code = codeConst (rd w) (immU w); on = λ p. refl }, refl)
-kinds-walk AUIPC pc w = (record { code = codeConst (rd w) (wrappingAdd pc (immU w)); on = λ p. refl }, refl)
-kinds-walk FENCE pc w = (record { code = []; on = λ p. refl }, refl)
-kinds-walk FENCE·I pc w = (record { code = []; on = λ p. refl }, refl)
-kinds-walk (branch c) pc w = (record { code = _; ends = λ p. refl }, refl)
-kinds-walk JAL pc w = (record { code = _; ends = λ p. refl }, refl)
-kinds-walk JALR pc w = (record { code = _; ends = λ p. refl }, refl)
-kinds-walk (access a) pc w = (λ p. refl, refl)
-kinds-walk (unmodelled u) pc w = (λ p. refl, refl)
-kinds-walk other pc w = (λ p. refl, refl)
+unfolding KindsWalk WalksBy emit
+kinds-walk (op o) pc w = record { code = codeOp o (rd w) (rs1 w) (rs2 w); on = λ p. refl }
+kinds-walk (opImm o) pc w = record { code = codeOpImm o (rd w) (rs1 w) (imm32 w) (shamt w) (shamtW w); on = λ p. refl }
+kinds-walk LUI pc w = record { code = codeConst (rd w) (immU w); on = λ p. refl }
+kinds-walk AUIPC pc w = record { code = codeConst (rd w) (wrappingAdd pc (immU w)); on = λ p. refl }
+kinds-walk FENCE pc w = record { code = []; on = λ p. refl }
+kinds-walk FENCE·I pc w = record { code = []; on = λ p. refl }
+kinds-walk (branch c) pc w = record { code = _; ends = λ p. refl }
+kinds-walk JAL pc w = record { code = _; ends = λ p. refl }
+kinds-walk JALR pc w = record { code = _; ends = λ p. refl }
+kinds-walk (access a) pc w = λ p. refl
+kinds-walk (unmodelled u) pc w = λ p. refl
+kinds-walk other pc w = λ p. refl
 
 -- only a straight word looks at what follows it
 emit-alike : (k : Instruction) (pc w : ℕ) {p q : Walked} → (kindNumber k ≡ 1 → p ≡ q) → emit k pc w p ≡ emit k pc w q

@@ -10,9 +10,9 @@ use Rattle.agreement.specs.Riscv.Instruction.{Instruction, Instruction.A
 use Rattle.agreement.specs.Riscv.Run.{Read, Registers, Stop, Stop.called, Stop.plain, does, halt, help, isLong, jump, oneMore, reading, taken, wordOf, writeX}
 use Rattle.agreement.specs.Translation.Emit.{codeBranch, codeConst, codeJal, codeJalr, codeOp, codeOpImm, compare, leftover, loadReg}
 use Rattle.agreement.specs.Translation.Kind.{kind}
-use Rattle.agreement.specs.Translation.Walk.{End, End.calls, End.goesOn, End.jumped, Walked, before, emit, helps, jumps, refusedAt, stopsAt, walk}
-use Rattle.agreement.specs.Turns.Machine.{History.end}
-use Rattle.agreement.specs.Turns.Premises.{Halfwords}
+use Rattle.agreement.specs.Translation.Walk.{End, End.calls, End.goesOn, End.jumped, Walked, before, emit, helps, jumps, notTakenAt, stopsAt, walk}
+use Rattle.agreement.specs.Statement.Machine.{History.end}
+use Rattle.agreement.specs.Statement.Premises.{Halfwords}
 use Rattle.agreement.specs.X86.Execute.{exec}
 use Rattle.agreement.specs.X86.Form.{Instr, R10, R11, RAX}
 use Rattle.agreement.specs.X86.State.{Flags, State}
@@ -77,7 +77,7 @@ module _ (undefined : State → Flags) (b : ℕ) (fits : b + 256 ≤ 2 ^ 64) whe
   unfolding run Next
   calling k i pc x s h = record { fit = fit-nil; slots = h; same = refl; next = (refl, refl) }
 
-  refusing : (pc w : ℕ) (x : Registers) (s : State) → Slots b x s → Agree (refusedAt pc w) (halt x pc) s
+  refusing : (pc w : ℕ) (x : Registers) (s : State) → Slots b x s → Agree (notTakenAt pc w) (halt x pc) s
   refusing pc w x s h = rw (opcode-is w, rs1-is w, rs2-is w) (by (left-over (opcode w) (rs1 w) (rs2 w) (omega arith) (omega arith) x s h))
     where
       by : Idle x s (leftover (opcode w) (rs1 w) (rs2 w))

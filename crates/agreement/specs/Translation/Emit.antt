@@ -85,7 +85,7 @@ abbrev pub codeBranch : Branch → ℕ → ℕ → ℕ → ℕ → List Instr
 codeBranch c rs1 rs2 next target =
     compare rs1 rs2 ++ movImm64 R11 next ∷ movImm64 RAX target ∷ cmov (ccFor c) R11 RAX ∷ mov RAX R11 ∷ []
 
--- what a refused word leaves behind, by its opcode: the Rust loads (and compares) before it tests funct3 and funct7
+-- what a word that is not taken leaves behind, by its opcode: the Rust loads (and compares) before it tests funct3 and funct7
 unfoldable pub leftover : ℕ → ℕ → ℕ → List Instr
 leftover o rs1 rs2 =
     cond (eqb o 0x63) (compare rs1 rs2) (

@@ -1,15 +1,15 @@
 -- The reply to a translation and the output's bytes afterwards. Document 01, "Replies", numbers 1 to 5 in that order.
-use mathlib.Core.Bool.{true, false}
+use mathlib.Core.Bool.{true, false, cond}
 use mathlib.Core.List.{List, [], _∷_, _++_}
 use Prim.Native.Nat.{ℕ, _%_, min}
 use lib.Bits.{bitAnd}
 use lib.ListN.{length, drop}
 use lib.Dec.{ltb, eqb}
 use Rattle.agreement.specs.Common.{greatest, mostSteps}
-use Rattle.agreement.specs.Riscv.Instruction.{Instruction, Instruction.op, Instruction.opImm, Instruction.branch, Instruction.access, Instruction.unmodelled, Instruction.LUI, Instruction.AUIPC, Instruction.JAL, Instruction.JALR, Instruction.FENCE, Instruction.FENCE·I, Instruction.other}
+use Rattle.agreement.specs.Riscv.Instruction.{Instruction}
 use Rattle.agreement.specs.X86.Encode.{bytes}
 use Rattle.agreement.specs.Translation.Decode32.{wordOf}
-use Rattle.agreement.specs.Translation.Kind.{kind}
+use Rattle.agreement.specs.Translation.Kind.{kind, kindNumber}
 use Rattle.agreement.specs.Translation.Walk.{Walked, walk, instrs, counted}
 
 pub record Block : Type 0 where
@@ -47,21 +47,11 @@ outputAfter (refusal r) out = out
 pub data First : Type 0 where
   begins : First
   lacks : ℕ → First
-  refuses : ℕ → First
+  untaken : ℕ → First
 
+-- a word is taken unless the number of its kind is 0
 unfoldable pub firstWord : Instruction → ℕ → First
-firstWord (op o) w = begins
-firstWord (opImm o) w = begins
-firstWord (branch c) w = begins
-firstWord (access a) w = begins
-firstWord LUI w = begins
-firstWord AUIPC w = begins
-firstWord JAL w = begins
-firstWord JALR w = begins
-firstWord FENCE w = begins
-firstWord FENCE·I w = begins
-firstWord (unmodelled u) w = refuses w
-firstWord other w = refuses w
+firstWord k w = cond (eqb (kindNumber k) 0) (untaken w) begins
 
 unfoldable pub first : List ℕ → First
 first [] = lacks 0
@@ -76,7 +66,7 @@ blockOf helper16 helperMem p = record { code = bytes (instrs helper16 helperMem 
 
 unfoldable pub byFirst : First → ℕ → Block → Reply
 byFirst (lacks i) room b = refusal (missing i)
-byFirst (refuses w) room b = refusal (notTaken w)
+byFirst (untaken w) room b = refusal (notTaken w)
 byFirst begins room b = elim (ltb room greatest) [ true ↦ refusal outputShort | false ↦ block b ]
 
 -- start, limit, halfwords, the pair of helpers, the output's length

@@ -35,9 +35,9 @@ jumps is = record { code = is; added = 1; end = jumped }
 abbrev pub before : List Instr → Walked → Walked
 before is p = record { code = is ++ p .code; added = suc (p .added); end = p .end }
 
--- a refused word leaves its loads, counts nothing, and the block goes on at its pc
-abbrev pub refusedAt : ℕ → ℕ → Walked
-refusedAt pc w = record { code = leftover (opcode w) (rs1 w) (rs2 w); added = 0; end = goesOn pc }
+-- a word that is not taken leaves its loads, counts nothing, and the block goes on at its pc
+abbrev pub notTakenAt : ℕ → ℕ → Walked
+notTakenAt pc w = record { code = leftover (opcode w) (rs1 w) (rs2 w); added = 0; end = goesOn pc }
 
 -- the word w at pc; p: the walk over what follows
 unfoldable pub emit : Instruction → ℕ → ℕ → Walked → Walked
@@ -51,8 +51,8 @@ emit (branch c) pc w p = jumps (codeBranch c (rs1 w) (rs2 w) (wrappingAdd pc 4) 
 emit JAL pc w p = jumps (codeJal (rd w) (wrappingAdd pc 4) (wrappingAdd pc (immJ w)))
 emit JALR pc w p = jumps (codeJalr (rd w) (rs1 w) (imm32 w) (wrappingAdd pc 4))
 emit (access a) pc w p = helps forAccess w pc
-emit (unmodelled u) pc w p = refusedAt pc w
-emit other pc w p = refusedAt pc w
+emit (unmodelled u) pc w p = notTakenAt pc w
+emit other pc w p = notTakenAt pc w
 
 -- at most n instructions of the halfwords that stand at pc; a compressed one needs no second halfword
 unfoldable pub walk : ℕ → ℕ → List ℕ → Walked

@@ -2,7 +2,7 @@
 use borrow.Author.Needs.{needs}
 use native.Mathlib.Omega.{arith}
 use lib.Pow.{pow-pos}
-use Rattle.decode.proofs.Width.{one-shl, ones, fits, extends}
+use Rattle.decode.proofs.SignExtendSum.{one-shl, ones, fits, extends}
 use Rattle.decode.proofs.sign_extend.Statement.{statement}
 use Rattle.decode.proofs.sign_extend.Tie as tie
 

@@ -49,7 +49,7 @@ use denote.Signature.{plain}
 use Rattle.store.specs.Places.{Places, Allocates, markOf}
 use Rattle.store.specs.declared.NativeCodeCache.{NativeCodeCache}
 use Rattle.store.specs.declared.Placing.{Placing}
-use Rattle.store.proofs.Answering.{moved}
+use Rattle.store.proofs.PlacingLaws.{moved}
 use Rattle.store.proofs.Marked.{marked, machine, marked-is, sliced}
 use Rattle.store.proofs.NativeCodeCache as Cache
 use Rattle.store.proofs.NativeCodeCache.Laws as CacheLaws

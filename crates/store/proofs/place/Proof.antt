@@ -1,5 +1,5 @@
 use native.Mathlib.Omega.{arith}
-use Rattle.store.proofs.Answering.{is-beyond, is-full, is-placed}
+use Rattle.store.proofs.PlacingLaws.{is-beyond, is-full, is-placed}
 use borrow.Author.Needs.{needs}
 use Rattle.store.proofs.place.Statement.{statement}
 use Rattle.store.proofs.place.Tie as tie

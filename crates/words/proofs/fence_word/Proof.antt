@@ -1,7 +1,6 @@
 use borrow.Author.Needs.{needs}
 use borrow.Author.Tests.{ne-eqb}
 use Rattle.agreement.specs.Translation.Kind.{kindFence, match}
-use Rattle.words.proofs.Choices.{cond-same}
 use Rattle.words.proofs.Joined.{words}
 use Rattle.words.proofs.fence_word.Statement.{statement}
 use Rattle.words.proofs.fence_word.Tie as tie

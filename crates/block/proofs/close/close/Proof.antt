@@ -1,7 +1,7 @@
 use mathlib.Core.Path.{refl}
 use native.Mathlib.Omega.{arith}
 use Rattle.agreement.specs.Translation.Walk.{ending, counted}
-use Rattle.block.proofs.Written.{closed}
+use Rattle.block.proofs.WalkWritten.{closed}
 use borrow.Author.Needs.{needs}
 use Rattle.block.proofs.close.close.Statement.{statement}
 use Rattle.block.proofs.close.close.Tie as tie

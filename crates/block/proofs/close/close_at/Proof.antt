@@ -1,6 +1,6 @@
 use borrow.Author.Needs.{needs}
 use Rattle.agreement.specs.Translation.Walk.{ending}
-use Rattle.emitter.proofs.Laws.{writes}
+use Rattle.emitter.proofs.WriteLaws.{writes}
 use Rattle.block.proofs.close.close_at.Statement.{statement}
 use Rattle.block.proofs.close.close_at.Tie as tie
 

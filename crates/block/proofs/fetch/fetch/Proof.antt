@@ -1,7 +1,7 @@
 use native.Mathlib.Omega.{arith}
 use borrow.Author.Needs.{needs}
 use Prim.Native.Nat.{_+_}
-use Rattle.block.proofs.Fetching.{none-left, half-there, half-lacks, word-there}
+use Rattle.block.proofs.RunFront.{none-left, half-there, half-lacks, word-there}
 use Rattle.block.proofs.fetch.fetch.Statement.{statement}
 use Rattle.block.proofs.fetch.fetch.Tie as tie
 

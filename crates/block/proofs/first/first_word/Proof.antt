@@ -1,6 +1,6 @@
 use mathlib.Core.Path.{sym, _∙_}
 use borrow.Author.Needs.{needs}
-use Rattle.block.proofs.Beginning.{first-is, word-first}
+use Rattle.block.proofs.FirstWord.{first-is, word-first}
 use Rattle.block.proofs.first.first_word.Statement.{statement}
 use Rattle.block.proofs.first.first_word.Tie as tie
 

@@ -1,7 +1,7 @@
 -- Between two words `Walking` holds; the steps left fall.
 use mathlib.Core.Path.{sym, _∙_}
 use Prim.Native.Nat.{_-_}
-use Rattle.block.proofs.Looping.{Walking, begins, used-up, lacking, halved, going-on, ended, turned-down}
+use Rattle.block.proofs.WalkLoop.{Walking, begins, used-up, lacking, halved, going-on, ended, turned-down}
 use borrow.Author.Needs.{needs}
 use Rattle.block.proofs.walk.emit_words.Statement.{statement}
 use Rattle.block.proofs.walk.emit_words.Tie as tie
@@ -78,7 +78,7 @@ emit-words-spec =
     let looping = fetching .before .before in
     let f = sym (found .fetched2 .given .1) ∙ fetching .fetch .ensures in
     let done = turned-down _ (looping .loop .inv) (fetching .before .loop-test .taken) f (emitting .emit-native-instr-x64 .ensures) in
-    (done (c .before .enum-told4 .given .1) (c .refused .ensures), search needs))
+    (done (c .before .enum-told4 .given .1) (c .not-emitted .ensures), search needs))
     (λ c κs. search needs)
     (λ c. search needs)
     (λ c. (used-up (c .before .before .loop .inv) (c .before .loop-test .left) (c .stopped4 .ensures), search needs)))

@@ -1,7 +1,7 @@
 -- The byte is the definition's, and the test is whether it is bare.
 use borrow.Author.Needs.{needs}
 use native.Mathlib.Omega.{arith}
-use Rattle.emitter.proofs.Laws.{none}
+use Rattle.emitter.proofs.WriteLaws.{none}
 use Rattle.emitter.proofs.Rex.{bare, shown}
 use Rattle.emitter.proofs.X64Emitter.emit_rex.Statement.{statement}
 use Rattle.emitter.proofs.X64Emitter.emit_rex.Tie as tie

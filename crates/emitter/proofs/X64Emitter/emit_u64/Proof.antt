@@ -1,5 +1,5 @@
 use borrow.Author.Needs.{needs}
-use Rattle.emitter.proofs.Laws.{writes}
+use Rattle.emitter.proofs.WriteLaws.{writes}
 use Rattle.emitter.proofs.Halves.{halves}
 use Rattle.emitter.proofs.X64Emitter.emit_u64.Statement.{statement}
 use Rattle.emitter.proofs.X64Emitter.emit_u64.Tie as tie

@@ -1,5 +1,5 @@
 use borrow.Author.Needs.{needs}
-use Rattle.emitter.proofs.Laws.{writes}
+use Rattle.emitter.proofs.WriteLaws.{writes}
 use Rattle.emitter.proofs.X64Emitter.form_0f_al.Statement.{statement}
 use Rattle.emitter.proofs.X64Emitter.form_0f_al.Tie as tie
 

@@ -1,5 +1,5 @@
 use borrow.Author.Needs.{needs}
-use Rattle.emitter.proofs.Laws.{writes}
+use Rattle.emitter.proofs.WriteLaws.{writes}
 use Rattle.emitter.proofs.X64Emitter.form_digit_rm_imm32.Statement.{statement}
 use Rattle.emitter.proofs.X64Emitter.form_digit_rm_imm32.Tie as tie
 

@@ -1,5 +1,5 @@
 use borrow.Author.Needs.{needs}
-use Rattle.emitter.proofs.Laws.{writes, rooms}
+use Rattle.emitter.proofs.WriteLaws.{writes, rooms}
 use Rattle.emitter.proofs.X64Emitter.form_digit_rm_imm8.Statement.{statement}
 use Rattle.emitter.proofs.X64Emitter.form_digit_rm_imm8.Tie as tie
 

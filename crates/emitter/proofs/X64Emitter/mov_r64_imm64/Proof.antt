@@ -1,5 +1,5 @@
 use borrow.Author.Needs.{needs}
-use Rattle.emitter.proofs.Laws.{writes}
+use Rattle.emitter.proofs.WriteLaws.{writes}
 use Rattle.emitter.proofs.X64Emitter.mov_r64_imm64.Statement.{statement}
 use Rattle.emitter.proofs.X64Emitter.mov_r64_imm64.Tie as tie
 

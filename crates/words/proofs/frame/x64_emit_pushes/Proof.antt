@@ -1,5 +1,5 @@
 use borrow.Author.Needs.{needs}
-use Rattle.emitter.proofs.Laws.{_then_}
+use Rattle.emitter.proofs.WriteLaws.{_then_}
 use Rattle.words.proofs.frame.x64_emit_pushes.Statement.{statement}
 use Rattle.words.proofs.frame.x64_emit_pushes.Tie as tie
 

@@ -1,6 +1,6 @@
 use native.Mathlib.Omega.{arith}
 use borrow.Author.Needs.{needs}
-use Rattle.emitter.proofs.Laws.{writes}
+use Rattle.emitter.proofs.WriteLaws.{writes}
 use Rattle.words.proofs.Joined.{at-zero, at-other}
 use Rattle.words.proofs.jump.jalr_link.Statement.{statement}
 use Rattle.words.proofs.jump.jalr_link.Tie as tie

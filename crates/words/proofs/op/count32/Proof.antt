@@ -1,5 +1,5 @@
 use borrow.Author.Needs.{needs}
-use Rattle.emitter.proofs.Laws.{writes}
+use Rattle.emitter.proofs.WriteLaws.{writes}
 use Rattle.words.proofs.op.count32.Statement.{statement}
 use Rattle.words.proofs.op.count32.Tie as tie
 

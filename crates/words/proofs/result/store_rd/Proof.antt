@@ -1,6 +1,6 @@
 use borrow.Author.Needs.{needs}
 use mathlib.Core.Path.{refl}
-use Rattle.emitter.proofs.Laws.{none}
+use Rattle.emitter.proofs.WriteLaws.{none}
 use Rattle.words.proofs.Joined.{answered}
 use Rattle.words.proofs.result.store_rd.Statement.{statement}
 use Rattle.words.proofs.result.store_rd.Tie as tie

@@ -1,5 +1,5 @@
 use borrow.Author.Needs.{needs}
-use Rattle.emitter.proofs.Laws.{writes}
+use Rattle.emitter.proofs.WriteLaws.{writes}
 use Rattle.words.proofs.slots.x64_emit_load_pair.Statement.{statement}
 use Rattle.words.proofs.slots.x64_emit_load_pair.Tie as tie
 

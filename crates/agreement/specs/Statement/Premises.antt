@@ -13,7 +13,7 @@ use Rattle.agreement.specs.X86.Memory.{at, read}
 use Rattle.agreement.specs.X86.Form.{RAX, RDX, RBX, RSP, RBP, R12, R13, R14, R15, Instr.callRax}
 use Rattle.agreement.specs.X86.State.{State}
 use Rattle.agreement.specs.Translation.Replies.{Block, Reply.block}
-use Rattle.agreement.specs.Turns.Machine.{RegisterBytes, Turn, enter, Steps, By, Event, reply, Turned}
+use Rattle.agreement.specs.Statement.Machine.{RegisterBytes, Turn, enter, Steps, By, Event, reply, Turned}
 
 -- n bytes from a and m bytes from c have none in common
 abbrev pub Apart : ℕ → ℕ → ℕ → ℕ → Type 0

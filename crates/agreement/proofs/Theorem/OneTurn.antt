@@ -6,30 +6,30 @@ use mathlib.Core.Path.{_∙_, _≡_, ap, refl, subst, sym}
 use Prim.Native.Nat.{_*_, _+_, _-_, _<_, _^_, _≤_, min, suc, ℕ}
 use native.Mathlib.Omega.{arith}
 use lib.Dec.{eqb, leb, ltb}
-use lib.ListN.{length, length-append}
+use lib.ListN.{length}
 use Rattle.agreement.specs.Common.{Helper, Helper.forAccess, Helper.forHalfword, mostSteps}
 use Rattle.agreement.specs.Riscv.Run.{Feed, GuestState, Left, Read, Registers, Stop.called, Stop.plain, does, readTurn, reading, turn}
 use Rattle.agreement.specs.Translation.Emit.{addCount, closing, opening, passes}
 use Rattle.agreement.specs.Translation.Replies.{Block, Reply.block, blockOf, walked}
 use Rattle.agreement.specs.Translation.Walk.{End, End.calls, End.goesOn, End.jumped, Walked, before, counted, ending, helperAt, instrs}
-use Rattle.agreement.specs.Turns.Agreement.{At, Entered, Returns, feed, feedOf, helperOf, isRefused, leftBy, own}
-use Rattle.agreement.specs.Turns.Machine.{By, Call, Event.visited, RegisterBytes, Steps, Turn, Visit, Went, Went.helped, Went.plainly, bytesAfter, enter, plusRdx, reply}
-use Rattle.agreement.specs.Turns.Premises.{Enterable, Keeps, Layout, Typed}
+use Rattle.agreement.specs.Statement.Agreement.{At, Entered, Returns, feed, feedOf, helperOf, isRefused, leftBy, own}
+use Rattle.agreement.specs.Statement.Machine.{By, Call, Event.visited, RegisterBytes, Steps, Turn, Visit, Went, Went.helped, Went.plainly, bytesAfter, enter, plusRdx, reply}
+use Rattle.agreement.specs.Statement.Premises.{Enterable, Keeps, Layout, Typed}
 use Rattle.agreement.specs.X86.Decode.{Bytes, Operand.mem}
-use Rattle.agreement.specs.X86.Encode.{bytes, encode, modReg, rex}
+use Rattle.agreement.specs.X86.Encode.{bytes, encode}
 use Rattle.agreement.specs.X86.Form.{Alu.add, Instr, Instr.aluImm32, Instr.callRax, Instr.ret, Ok, RAX, RDI, RDX, RSP}
 use Rattle.agreement.specs.X86.Memory.{Memory, at, nth, overlay, read}
 use Rattle.agreement.specs.X86.State.{State}
 use Rattle.agreement.specs.X86.Step.{all, next, step, steps}
 use Rattle.agreement.proofs.Block.Frame.{frame}
 use Rattle.agreement.proofs.Block.Stages.{Entry, Exit, Place, Returned, way-out}
-use Rattle.agreement.proofs.Block.Visited.{Back, Calling, Leaving, calls-leaves, goesOn-leaves, jumped-leaves}
+use Rattle.agreement.proofs.Block.EntryToReturn.{Back, Calling, Leaving, calls-leaves, goesOn-leaves, jumped-leaves}
 use Rattle.agreement.proofs.Host.Fetching.{fetch, one}
-use Rattle.agreement.proofs.Host.Straight.{all-append, bytes-append, step-unlogged}
+use Rattle.agreement.proofs.Host.Straight.{all-append, step-unlogged}
 use Rattle.agreement.proofs.Laws.Tests.{leb-yes}
-use Rattle.agreement.proofs.Turns.Layout.{AllOk, fine-ok, laid, ok-append, overlay-in, overlay-out, slot-shift, small-bytes}
-use Rattle.agreement.proofs.Turns.Reading.{Stays, stays, turn-called, turn-plain}
-use Rattle.agreement.proofs.Turns.Replying.{Bounds, EndOk, walk-ok}
+use Rattle.agreement.proofs.Theorem.MemoryAtEntry.{AllOk, fine-ok, laid, ok-append, overlay-in, overlay-out, slot-shift, small-bytes}
+use Rattle.agreement.proofs.Theorem.ManualRun.{Stays, stays, turn-called, turn-plain}
+use Rattle.agreement.proofs.Theorem.RefusedAlike.{Bounds, EndOk, walk-ok}
 use Rattle.agreement.proofs.Words.Simulation.{Agree, agree}
 use Rattle.agreement.proofs.Words.Slots.{Slots}
 

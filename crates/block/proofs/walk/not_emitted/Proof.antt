@@ -2,8 +2,8 @@ use mathlib.Core.Path.{ap, _∙_}
 use Prim.Native.Nat.{ℕ}
 use borrow.Author.Needs.{needs}
 use Rattle.words.specs.Word.{endBy}
-use Rattle.block.proofs.walk.refused.Statement.{statement}
-use Rattle.block.proofs.walk.refused.Tie as tie
+use Rattle.block.proofs.walk.not_emitted.Statement.{statement}
+use Rattle.block.proofs.walk.not_emitted.Tie as tie
 
 returns : tie.Need-returns
 returns c =
@@ -15,8 +15,8 @@ returns c =
       stopped .2 ∙ c .before .end-by-kind .ensures ∙ ap (λ (n : ℕ). endBy n (a .pc) (a .instr)) (kind .word-kind .ensures),
     )
 
-pub refused-spec : {M : Type 1} → statement M
-refused-spec =
+pub not-emitted-spec : {M : Type 1} → statement M
+not-emitted-spec =
     tie.close
     (tie.spec
     (λ c κs. search needs)

@@ -12,10 +12,10 @@ use Rattle.agreement.specs.Riscv.Fields.{plus}
 use Rattle.agreement.specs.Riscv.Instruction.{Instruction, Instruction.AUIPC, Instruction.FENCE, Instruction.FENCE·I, Instruction.JAL, Instruction.JALR, Instruction.LUI, Instruction.access, Instruction.branch, Instruction.op, Instruction.opImm, Instruction.other, Instruction.unmodelled}
 use Rattle.agreement.specs.Riscv.Run.{chosen, firstRefused, isLong, isNotTaken, refused, taken, wordOf}
 use Rattle.agreement.specs.Translation.Kind.{kind}
-use Rattle.agreement.specs.Translation.Replies.{Block, First.begins, First.lacks, First.refuses, Refusal, Refusal.limitZero, Refusal.missing, Refusal.notTaken, Refusal.oddStart, Refusal.outputShort, Reply.block, Reply.refusal, blockOf, byFirst, first, firstWord, translate, walked}
+use Rattle.agreement.specs.Translation.Replies.{Block, First.begins, First.lacks, First.untaken, Refusal, Refusal.limitZero, Refusal.missing, Refusal.notTaken, Refusal.oddStart, Refusal.outputShort, Reply.block, Reply.refusal, blockOf, byFirst, first, firstWord, translate, walked}
 use Rattle.agreement.specs.Translation.Walk.{End, End.calls, End.goesOn, End.jumped, Walked, emit, helps, stopsAt, walk}
-use Rattle.agreement.specs.Turns.Machine.{Turn, reply}
-use Rattle.agreement.specs.Turns.Premises.{Halfwords}
+use Rattle.agreement.specs.Statement.Machine.{Turn, reply}
+use Rattle.agreement.specs.Statement.Premises.{Halfwords}
 use Rattle.agreement.proofs.Laws.Fields.{long-is, wordOf-is}
 use Rattle.agreement.proofs.Laws.Naming.{kind-is}
 use Rattle.agreement.specs.Translation.Decode32 as Decode32
@@ -25,9 +25,9 @@ use Rattle.agreement.specs.Translation.Decode32 as Decode32
 data FirstIs (hs : List ℕ) : Type 0 where
   taken-first : first hs ≡ begins → firstRefused hs ≡ false → FirstIs hs
   lacks-first : (i : ℕ) → first hs ≡ lacks i → firstRefused hs ≡ true → FirstIs hs
-  refuses-first : (w : ℕ) → first hs ≡ refuses w → firstRefused hs ≡ true → FirstIs hs
+  untaken-first : (w : ℕ) → first hs ≡ untaken w → firstRefused hs ≡ true → FirstIs hs
 
-first-chosen : (i : Instruction) (w : ℕ) → firstWord i w ≡ cond (chosen i) begins (refuses w)
+first-chosen : (i : Instruction) (w : ℕ) → firstWord i w ≡ cond (chosen i) begins (untaken w)
 unfolding firstWord
 first-chosen (op o) w = refl
 first-chosen (unmodelled o) w = refl
@@ -53,12 +53,12 @@ first-is (h ∷ []) l = go (isLong h) refl
 first-is (h ∷ u ∷ hs) l = go (isLong h) refl (chosen (taken (wordOf h u))) refl
   where
     word-first : (b : Bool) → chosen (taken (wordOf h u)) ≡ b
-        → firstWord (kind (Decode32.wordOf h u)) (Decode32.wordOf h u) ≡ cond b begins (refuses (wordOf h u))
+        → firstWord (kind (Decode32.wordOf h u)) (Decode32.wordOf h u) ≡ cond b begins (untaken (wordOf h u))
     word-first b e = rw (wordOf-is h u (l .0)) (rw (kind-is (wordOf h u)) (first-chosen (taken (wordOf h u)) (wordOf h u) ∙ rw e))
 
     go : (b : Bool) → isLong h ≡ b → (c : Bool) → chosen (taken (wordOf h u)) ≡ c → FirstIs (h ∷ u ∷ hs)
     go true e true c = taken-first (rw (long-is h ∙ e, first) (word-first true c)) (rw (e, firstRefused) (rw c))
-    go true e false c = refuses-first (wordOf h u) (rw (long-is h ∙ e, first) (word-first false c)) (rw (e, firstRefused) (rw c))
+    go true e false c = untaken-first (wordOf h u) (rw (long-is h ∙ e, first) (word-first false c)) (rw (e, firstRefused) (rw c))
     go false e b c = taken-first (rw (long-is h ∙ e, first)) (rw (e, firstRefused))
 
 -- 2. The reply
@@ -66,8 +66,8 @@ first-is (h ∷ u ∷ hs) l = go (isLong h) refl (chosen (taken (wordOf h u))) r
 abbrev blockAt : Turn → ℕ → Block
 blockAt t pc = blockOf (t .helper16) (t .helperMem) (walked pc (t .limit) (t .halfwords))
 
-abbrev refusedAt : Turn → ℕ → Bool
-refusedAt t pc = refused (t .limit) pc (t .halfwords) (length (t .output))
+abbrev turnRefused : Turn → ℕ → Bool
+turnRefused t pc = refused (t .limit) pc (t .halfwords) (length (t .output))
 
 pub data Replied (t : Turn) (pc : ℕ) : Type 0 where
   out : (r : Refusal) → reply t pc ≡ refusal r → refused (t .limit) pc (t .halfwords) (length (t .output)) ≡ true → Replied t pc
@@ -83,7 +83,7 @@ replied t pc l = go (eqb (t .limit) 0) (eqb (pc % 2) 1) (ltb (length (t .output)
     go false true c p q r f = out (oddStart pc) (unfold translate in rw (p, translate) (rw q)) (unfold refused in rw (p, q))
     go false false c p q r (lacks-first i e h) =
         out (missing i) (unfold translate byFirst in rw (p, translate) (rw q (rw e))) (unfold refused in rw (p, q, h))
-    go false false c p q r (refuses-first w e h) =
+    go false false c p q r (untaken-first w e h) =
         out (notTaken w) (unfold translate byFirst in rw (p, translate) (rw q (rw e))) (unfold refused in rw (p, q, h))
     go false false true p q r (taken-first e h) =
         out outputShort (unfold translate byFirst in rw (p, translate) (rw q (rw e (rw (r, byFirst))))) (unfold refused in rw (p, q, h, r))

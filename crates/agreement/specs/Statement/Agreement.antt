@@ -13,8 +13,8 @@ use Rattle.agreement.specs.X86.Step.{all}
 use Rattle.agreement.specs.Riscv.Run.{Stop.plain, Stop.called, Read, refused, Left, Feed, GuestState, readTurn, turn, manual}
 use Rattle.agreement.specs.Translation.Walk.{instrs}
 use Rattle.agreement.specs.Translation.Replies.{walked}
-use Rattle.agreement.specs.Turns.Machine.{RegisterBytes, Turn, Call, Visit, Event, Event.rejected, Event.visited, History, since}
-use Rattle.agreement.specs.Turns.Premises.{Premises}
+use Rattle.agreement.specs.Statement.Machine.{RegisterBytes, Turn, Call, Visit, Event, Event.rejected, Event.visited, History, since}
+use Rattle.agreement.specs.Statement.Premises.{Premises}
 
 -- 1. What a turn feeds to the manual's run: its code and, after a helper, the slots and RAX that the helper left
 

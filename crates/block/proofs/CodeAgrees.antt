@@ -1,18 +1,17 @@
 -- Demand 3, of the code: a run of the code is a history of crate agreement, and the other way round.
-use mathlib.Core.Path.{_≡_, refl, sym, _∙_}
-use mathlib.Core.List.{List, [], _∷_}
+use mathlib.Core.Path.{refl, sym, _∙_}
+use mathlib.Core.List.{List}
 use Prim.Native.Nat.{ℕ}
 use lib.ListN.{length}
 use Rattle.agreement.specs.Translation.Replies.{Reply, Reply.block, Reply.refusal, Refusal.limitZero, Refusal.oddStart, Refusal.missing, Refusal.notTaken, Refusal.outputShort, numbered, outputAfter}
-use Rattle.agreement.specs.Turns.Machine.{RegisterBytes, Turn, Event, Turned, Turned.skip, Turned.visit, History, History.end, History.then, reply}
-use Rattle.agreement.proofs.Turns.Agreement.{agreement}
-use Rattle.agreement.specs.Turns.Agreement.{Agreement, Agrees}
+use Rattle.agreement.specs.Statement.Machine.{RegisterBytes, Turn, Event, Turned, Turned.skip, Turned.visit, History, History.end, History.then, reply}
+use Rattle.agreement.proofs.Theorem.Agreement.{agreement}
+use Rattle.agreement.specs.Statement.Agreement.{Agreement, Agrees}
 use Rattle.block.specs.Answers.{Answers}
-use Rattle.block.specs.Reading.{read}
-use Rattle.block.specs.Turns.{Ran, Ran.skip, Ran.visit, Run, Run.end, Run.then, AgreesInCode, AgreementInCode}
+use Rattle.block.specs.AgreementInCode.{Ran, Ran.skip, Ran.visit, Run, Run.end, Run.then, AgreementInCode}
 use Rattle.block.specs.declared.Answer.{Answer}
 use Rattle.block.specs.declared.Answer.the-variants.{Block, LimitZero, OddStart, Missing, NotTaken, OutputShort}
-use Rattle.block.proofs.Reading.{reads}
+use Rattle.block.proofs.CallerReadsReply.{reads}
 
 -- an answer for each reply
 abbrev answerTo : Reply → Answer

@@ -10,17 +10,18 @@ use Rattle.agreement.specs.Translation.Decode32.{wrappingAdd}
 use Rattle.agreement.specs.Translation.Kind.{kind}
 use Rattle.agreement.specs.Translation.Walk.{walk, End.goesOn, End.jumped, End.calls}
 use Rattle.agreement.specs.Translation.Walk as Translation
-use Rattle.emitter.proofs.Laws.{none}
+use Rattle.emitter.proofs.WriteLaws.{none}
 use Rattle.emitter.specs.declared.X64Emitter.{X64Emitter}
-use Rattle.words.specs.Word.{Emits, wordAs, refusedEnd}
+use Rattle.words.specs.Word.{Emits, wordAs, endAt}
 use Rattle.words.specs.declared.Emitted.{Emitted}
-use Rattle.words.specs.declared.X64EmitFlow.the-variants.{Continue, Terminate, Refused}
+use Rattle.words.specs.declared.X64EmitFlow.the-variants.{Continue, Terminate, NotEmitted}
 use Rattle.block.specs.Fetch.{fetched}
 use Rattle.block.specs.Walks.{Walks, endAs}
 use Rattle.block.specs.declared.walk.Walked.{Walked}
 use Rattle.block.specs.declared.fetch.Fetched.the-variants.{Missing, Half, Word}
-use Rattle.block.proofs.Stepping.{at-none, at-missing, at-half, at-word, behind, straight-short}
-use Rattle.block.proofs.Written.{named, going, stopping}
+use Rattle.block.proofs.WalkStep.{at-none, at-missing, at-half, at-word, behind}
+use Rattle.block.proofs.StraightLength.{straight-short}
+use Rattle.block.proofs.WalkWritten.{named, going, stopping}
 
 -- n words of the run hs are written; l₀ and a₀ were the output and the place before the first, l and a are those behind the last.
 -- Whatever completes the walk from there completes the whole.
@@ -32,7 +33,7 @@ pub record Walking (steps start : ℕ) (hs l₀ : List ℕ) (a₀ : ℕ) (l : Li
   pub rest : (l′ : List ℕ) (r : Walked)
       → Walks l a n (walk (steps - n) pc (drop k hs)) l′ r → Walks l₀ a₀ 0 (walk steps start hs) l′ r
 
--- a result as `stopped` and `refused` give it
+-- a result as `stopped` and `not_emitted` give it
 abbrev pub Left : X64Emitter → ℕ → Translation.End → Walked → Type 0
 Left em n e r = (r .em ≡ em) × (r .emitted ≡ n) × (endAs (r .end) ≡ e)
 
@@ -94,7 +95,7 @@ module _ {steps start : ℕ} {hs l₀ : List ℕ} {a₀ : ℕ} {l : List ℕ} {p
         w .rest m r (named (at-word (steps - n) pc (drop k hs) left f (sym (E .flows) ∙ t))
         (record { ends = q .2; counts = q .1; wrote = rw (q .0) (E .wrote) }))
 
-    pub turned-down : {r : Walked} → e .flow ≡ Refused → Left (e .em) n (refusedEnd (kind i) pc i) r
+    pub turned-down : {r : Walked} → e .flow ≡ NotEmitted → Left (e .em) n (endAt (kind i) pc i) r
         → Walks l₀ a₀ 0 (walk steps start hs) m r
     turned-down {r = r} t q =
         w .rest m r (named (at-word (steps - n) pc (drop k hs) left f (sym (E .flows) ∙ t)) (stopping E q))

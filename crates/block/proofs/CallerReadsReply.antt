@@ -1,14 +1,14 @@
 -- What a caller of `translate` reads off its answer and the output is the definition's reply.
-use mathlib.Core.Path.{_≡_, refl, sym, ap, _∙_}
+use mathlib.Core.Path.{_≡_, refl, ap, _∙_}
 use mathlib.Core.List.{List, [], _∷_}
 use Prim.Native.Nat.{ℕ}
 use native.Mathlib.Omega.{arith}
 use lib.ListN.{length, take}
 use lib.Seq.{take-append-seam}
-use Rattle.agreement.specs.Translation.Replies.{Reply, Reply.block, Reply.refusal, Refusal, Refusal.limitZero, Refusal.oddStart, Refusal.missing, Refusal.notTaken, Refusal.outputShort, numbered, outputAfter}
+use Rattle.agreement.specs.Translation.Replies.{Reply, Reply.block, Reply.refusal, Refusal.limitZero, Refusal.oddStart, Refusal.missing, Refusal.notTaken, Refusal.outputShort, numbered, outputAfter}
 use Rattle.agreement.specs.Translation.Replies as Replies
-use Rattle.block.specs.Answers.{Answers, answered}
-use Rattle.block.specs.Reading.{read}
+use Rattle.block.specs.Answers.{Answers}
+use Rattle.block.specs.CallerReads.{read}
 use Rattle.block.specs.declared.Answer.{Answer}
 use Rattle.block.specs.declared.Answer.the-variants.{Block, LimitZero, OddStart, Missing, NotTaken, OutputShort}
 

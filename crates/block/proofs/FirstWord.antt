@@ -1,5 +1,5 @@
 -- The test of the first word (crate agreement, Translation/Replies) by what stands at the front of the run.
-use mathlib.Core.Path.{_≡_, refl, sym, ap, _∙_}
+use mathlib.Core.Path.{_≡_, refl, ap, _∙_}
 use mathlib.Core.Bool.{Bool, true, false, cond}
 use mathlib.Core.List.{List, [], _∷_}
 use Prim.Native.Nat.{ℕ}
@@ -8,8 +8,6 @@ use lib.Dec.{eqb}
 use Rattle.agreement.specs.Translation.Decode32.{wordOf}
 use Rattle.agreement.specs.Translation.Kind.{kind, kindNumber}
 use Rattle.agreement.specs.Translation.Replies.{First, First.begins, First.lacks, first, firstWord}
-use Rattle.agreement.specs.Laws.{KindsWalk}
-use Rattle.agreement.proofs.Laws.Needed.{kinds-walk}
 use Rattle.block.specs.Fetch.{fetched}
 use Rattle.block.specs.First.{byNumber}
 use Rattle.block.specs.declared.fetch.Fetched.{Fetched}
@@ -20,12 +18,8 @@ byFetchedFirst (Missing i) = lacks i
 byFetchedFirst (Half h) = begins
 byFetchedFirst (Word w) = byNumber (kindNumber (kind w)) w
 
-first-word : (w : ℕ) → firstWord (kind w) w ≡ byNumber (kindNumber (kind w)) w
-unfolding KindsWalk
-first-word w = kinds-walk (kind w) 0 w .1
-
 pub first-is : (hs : List ℕ) {f : Fetched} → f ≡ fetched hs → byFetchedFirst f ≡ first hs
-unfolding first
+unfolding first firstWord
 first-is [] e = ap byFetchedFirst e
 first-is (h ∷ []) e = ap byFetchedFirst e ∙ go (eqb (bitAnd h 0x3) 0x3)
   where
@@ -38,7 +32,7 @@ first-is (h ∷ u ∷ hs) e = ap byFetchedFirst e ∙ go (eqb (bitAnd h 0x3) 0x3
     w = wordOf h u
 
     go : (t : Bool) → byFetchedFirst (cond t (Word w) (Half h)) ≡ elim t [ true ↦ firstWord (kind w) w | false ↦ begins ]
-    go true = sym (first-word w)
+    go true = refl
     go false = refl
 
 -- the word's kind has the number n

@@ -1,31 +1,24 @@
 -- A step of the walk (crate agreement, Translation/Walk) by what stands at the front of the run.
-use mathlib.Core.Path.{_≡_, refl, sym, ap, _∙_, subst}
+use mathlib.Core.Path.{_≡_, refl, sym, ap, _∙_}
 use mathlib.Core.Logic.{_≢_}
 use mathlib.Core.Bool.{Bool, true, false, cond}
 use mathlib.Core.List.{List, [], _∷_}
-use Prim.Native.Nat.{ℕ, zero, suc, _+_, _-_, _≤_}
-use native.Mathlib.Omega.{arith}
+use Prim.Native.Nat.{ℕ, zero, suc, _+_, _-_}
 use native.Mathlib.Numerals.{sub-one}
 use lib.Bits.{bitAnd}
 use lib.Dec.{eqb}
-use lib.ListN.{length, drop}
+use lib.ListN.{drop}
 use lib.Seq.{drop-drop}
 use Rattle.agreement.specs.Common.{Helper.forHalfword}
-use Rattle.agreement.specs.Riscv.Instruction.{Instruction, Instruction.op, Instruction.opImm, Instruction.branch, Instruction.access, Instruction.unmodelled, Instruction.LUI, Instruction.AUIPC, Instruction.JAL, Instruction.JALR, Instruction.FENCE, Instruction.FENCE·I, Instruction.other}
-use Rattle.agreement.specs.X86.Encode.{bytes}
-use Rattle.agreement.specs.Translation.Decode32.{wordOf, rd, rs1, rs2, imm32, shamt, shamtW, immU, wrappingAdd}
+use Rattle.agreement.specs.Translation.Decode32.{wordOf, wrappingAdd}
 use Rattle.agreement.specs.Translation.Kind.{kind}
 use Rattle.agreement.specs.Translation.Walk.{Walked, walk, emit, stopsAt, helps}
-use Rattle.agreement.proofs.Laws.Length.{len-op, len-imm, len-const}
-use Rattle.words.specs.Word.{wordAs, refusedEnd}
+use Rattle.words.specs.Word.{wordAs, endAt}
 use Rattle.words.specs.declared.X64EmitFlow.{X64EmitFlow}
-use Rattle.words.specs.declared.X64EmitFlow.the-variants.{Continue, Terminate, Refused}
-use Rattle.words.proofs.Walking.{byFlow, walks-on}
+use Rattle.words.proofs.WalkWords.{byFlow, walks-on}
 use Rattle.block.specs.Fetch.{fetched}
 use Rattle.block.specs.declared.fetch.Fetched.{Fetched}
 use Rattle.block.specs.declared.fetch.Fetched.the-variants.{Missing, Half, Word}
-
--- 1. The walk
 
 -- p: the walk over what follows the word
 abbrev byFetched : Fetched → ℕ → Walked → Walked
@@ -76,35 +69,13 @@ at-half n pc hs h e = some-left n pc hs h e
 
 pub at-word : (n pc : ℕ) (hs : List ℕ) {w : ℕ} {f : X64EmitFlow} → n ≢ 0 → Word w ≡ fetched hs → wordAs (kind w) pc w .flow ≡ f
     → walk n pc hs
-    ≡ byFlow f (wordAs (kind w) pc w .code) (refusedEnd (kind w) pc w) (walk (n - 1) (wrappingAdd pc 4) (drop 2 hs))
+    ≡ byFlow f (wordAs (kind w) pc w .code) (endAt (kind w) pc w) (walk (n - 1) (wrappingAdd pc 4) (drop 2 hs))
 at-word n pc hs {w} h e t =
     let p : Walked = walk (n - 1) (wrappingAdd pc 4) (drop 2 hs) in
     some-left n pc hs h e ∙ walks-on (kind w) pc w p
-    ∙ ap (λ (g : X64EmitFlow). byFlow g (wordAs (kind w) pc w .code) (refusedEnd (kind w) pc w) p) t
+    ∙ ap (λ (g : X64EmitFlow). byFlow g (wordAs (kind w) pc w .code) (endAt (kind w) pc w) p) t
 
 -- the run behind a word, from the start of the run and from the word
 pub behind : (n pc next k : ℕ) (hs : List ℕ) → next ≡ wrappingAdd pc 4
     → walk n (wrappingAdd pc 4) (drop 2 (drop k hs)) ≡ walk n next (drop (k + 2) hs)
 behind n pc next k hs e = rw (drop-drop 2 k hs, e) refl
-
--- 2. A word that goes on has at most 34 bytes
-
-ends-not : Terminate ≡ Continue → ⊥
-ends-not e = let z : _≡_ {A = ℕ} 0 1 = cc in omega arith
-
-refused-not : Refused ≡ Continue → ⊥
-refused-not e = let z : _≡_ {A = ℕ} 0 1 = cc in omega arith
-
-pub straight-short : (k : Instruction) (pc w : ℕ) → wordAs k pc w .flow ≡ Continue → length (bytes (wordAs k pc w .code)) ≤ 34
-straight-short (op o) pc w e = len-op o (rd w) (rs1 w) (rs2 w)
-straight-short (opImm o) pc w e = len-imm o (rd w) (rs1 w) (imm32 w) (shamt w) (shamtW w)
-straight-short LUI pc w e = omega (arith, len-const (rd w) (immU w))
-straight-short AUIPC pc w e = omega (arith, len-const (rd w) (wrappingAdd pc (immU w)))
-straight-short FENCE pc w e = omega arith
-straight-short FENCE·I pc w e = omega arith
-straight-short (branch c) pc w e = absurd (ends-not e)
-straight-short JAL pc w e = absurd (ends-not e)
-straight-short JALR pc w e = absurd (ends-not e)
-straight-short (access a) pc w e = absurd (refused-not e)
-straight-short (unmodelled u) pc w e = absurd (refused-not e)
-straight-short other pc w e = absurd (refused-not e)

@@ -7,11 +7,11 @@ use Prim.Native.Nat.{ℕ, _^_, _<_}
 use Rattle.agreement.specs.X86.Memory as Memory
 use Rattle.agreement.specs.X86.Form.{RAX}
 use Rattle.agreement.specs.Translation.Replies.{Block, Refusal, Reply.block, Reply.refusal}
-use Rattle.agreement.specs.Turns.Machine.{RegisterBytes, Turn, Visit, Went, enter, Event, Event.rejected, Event.visited, bytesAfter}
-use Rattle.agreement.specs.Turns.Premises.{Premises}
-use Rattle.agreement.specs.Turns.Agreement.{Agrees}
+use Rattle.agreement.specs.Statement.Machine.{RegisterBytes, Turn, Visit, Went, enter, Event, Event.rejected, Event.visited, bytesAfter}
+use Rattle.agreement.specs.Statement.Premises.{Premises}
+use Rattle.agreement.specs.Statement.Agreement.{Agrees}
 use Rattle.block.specs.Answers.{Translates}
-use Rattle.block.specs.Reading.{read}
+use Rattle.block.specs.CallerReads.{read}
 use Rattle.block.specs.declared.Answer.{Answer}
 
 -- the turn's call at pc answers r and leaves the output after

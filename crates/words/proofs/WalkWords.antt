@@ -1,24 +1,23 @@
 -- The words that the contracts name are those of the walk (crate agreement, Translation/Walk and Replies): `emit` goes on, ends or
 -- stops as the word's flow says, with the word's instructions; so does the test of the first word.
 use mathlib.Core.Path.{_≡_, refl}
-use mathlib.Core.Bool.{Bool, not, false}
 use mathlib.Core.List.{List}
 use Prim.Native.Nat.{ℕ}
 use Rattle.agreement.specs.Riscv.Instruction.{Instruction, Instruction.op, Instruction.opImm, Instruction.branch, Instruction.access, Instruction.unmodelled, Instruction.LUI, Instruction.AUIPC, Instruction.JAL, Instruction.JALR, Instruction.FENCE, Instruction.FENCE·I, Instruction.other}
 use Rattle.agreement.specs.X86.Form.{Instr}
 use Rattle.agreement.specs.Translation.Walk.{Walked, End, emit, before, jumps}
-use Rattle.words.specs.Word.{wordAs, refusedEnd}
-use Rattle.words.specs.declared.X64EmitFlow.the-variants.{Continue, Terminate, Refused}
+use Rattle.words.specs.Word.{wordAs, endAt}
+use Rattle.words.specs.declared.X64EmitFlow.the-variants.{Continue, Terminate, NotEmitted}
 use Rattle.words.specs.declared.X64EmitFlow.{X64EmitFlow}
 
--- the walk from a word on: its flow and instructions, the end if it is refused, the walk over what follows
+-- the walk from a word on: its flow and instructions, the end if it is not emitted, the walk over what follows
 abbrev pub byFlow : X64EmitFlow → List Instr → End → Walked → Walked
 byFlow Continue is e p = before is p
 byFlow Terminate is e p = jumps is
-byFlow Refused is e p = record { code = is; added = 0; end = e }
+byFlow NotEmitted is e p = record { code = is; added = 0; end = e }
 
 pub walks-on : (k : Instruction) (pc w : ℕ) (p : Walked)
-    → emit k pc w p ≡ byFlow (wordAs k pc w .flow) (wordAs k pc w .code) (refusedEnd k pc w) p
+    → emit k pc w p ≡ byFlow (wordAs k pc w .flow) (wordAs k pc w .code) (endAt k pc w) p
 unfolding emit
 walks-on (op o) pc w p = refl
 walks-on (opImm o) pc w p = refl

@@ -33,7 +33,7 @@ going {w = w} {p = p} h k = record {
   wrote = joined (w .code) (p .code) (h .wrote) (k .wrote);
 }
 
--- a refused word ends the walk
+-- a word that is not emitted ends the walk
 pub stopping : {l m : List ℕ} {a n : ℕ} {w : Word} {e : Emitted} {q : Translation.End} {r : Walked}
     → Emits l a w m e → (r .em ≡ e .em) × (r .emitted ≡ n) × (endAs (r .end) ≡ q)
     → Walks l a n (record { code = w .code; added = 0; end = q }) m r

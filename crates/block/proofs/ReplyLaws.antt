@@ -12,9 +12,9 @@ use lib.ListN.{length}
 use lib.Seq.{length-take-le}
 use Rattle.agreement.specs.Common.{greatest, mostSteps}
 use Rattle.agreement.specs.Translation.Walk.{walk}
-use Rattle.agreement.specs.Translation.Replies.{Block, Reply, Reply.block, Reply.refusal, Refusal.limitZero, Refusal.oddStart, Refusal.missing, Refusal.notTaken, Refusal.outputShort, First, First.begins, First.lacks, First.refuses, first, byFirst, blockOf, walked, translate, numbered, outputAfter}
+use Rattle.agreement.specs.Translation.Replies.{Block, Reply, Reply.block, Reply.refusal, Refusal.limitZero, Refusal.oddStart, Refusal.outputShort, First, First.begins, First.lacks, First.untaken, first, byFirst, blockOf, walked, translate, numbered, outputAfter}
 use Rattle.agreement.proofs.Laws.Length.{block-length}
-use Rattle.emitter.proofs.Laws.{parts}
+use Rattle.emitter.proofs.WriteLaws.{parts}
 use Rattle.block.specs.Walks.{Compiles}
 use Rattle.block.specs.Answers.{Answers, Fits}
 use Rattle.block.specs.declared.Answer.{Answer}
@@ -80,7 +80,7 @@ pub missing-halfword : {p : Reply} {l : List ℕ} (b : Block) (index : ℕ) → 
 unfolding byFirst numbered outputAfter
 missing-halfword b index e = named e (record { answers = refl; leaves = refl })
 
-pub not-taken : {p : Reply} {l : List ℕ} (b : Block) (word : ℕ) → p ≡ byFirst (refuses word) (length l) b
+pub not-taken : {p : Reply} {l : List ℕ} (b : Block) (word : ℕ) → p ≡ byFirst (untaken word) (length l) b
     → Answers p l l (Answer.NotTaken word)
 unfolding byFirst numbered outputAfter
 not-taken b word e = named e (record { answers = refl; leaves = refl })

@@ -4,13 +4,12 @@ use mathlib.Core.Logic.{_≢_}
 use mathlib.Core.List.{List, [], _∷_}
 use Prim.Native.Nat.{ℕ, suc, _+_, _*_, _%_, _<_, _≤_}
 use native.Mathlib.Omega.{arith}
-use borrow.Author.Tests.{eq-eqb, ne-eqb}
+use borrow.Author.Tests.{ne-eqb}
 use lib.Bits.{bitAnd, and-mask}
 use lib.ListN.{length, getD, drop, drop-of-length-le}
 use lib.Seq.{drop-cons}
 use lib.Dec.{eqb}
 use mathlib.Core.Bool.{true, false}
-use Rattle.agreement.specs.Translation.Decode32.{wordOf}
 use Rattle.agreement.proofs.Laws.Fields.{wordOf-is}
 use Rattle.block.specs.Fetch.{fetched}
 use Rattle.block.specs.declared.fetch.Fetched.{Fetched}

@@ -7,7 +7,7 @@ use Prim.Native.Nat.{ℕ}
 use lib.ListN.{length}
 use Rattle.agreement.specs.Translation.Replies.{walked}
 use Rattle.agreement.specs.Translation.Walk.{instrs}
-use Rattle.agreement.specs.Turns.Machine.{enter}
+use Rattle.agreement.specs.Statement.Machine.{enter}
 use Rattle.agreement.specs.X86.Decode.{aluOf, ccOf, decode, imm, loaded, memory, modrm, moved, onReg, only, opcode0F, opcode1, pick, shiftOf, sib, widthOf}
 use Rattle.agreement.specs.X86.Encode.{bytes}
 use Rattle.agreement.specs.X86.Execute.{accesses, exec}
@@ -46,6 +46,6 @@ executed = refl
 abbrev read-only : Permissions
 read-only = record { fetch = λ x. true; read = λ x. true; write = λ x. false }
 
-refused-write : step (plainTurn .undefined) read-only (enter plainTurn code zeros) ≡ none
+write-faults : step (plainTurn .undefined) read-only (enter plainTurn code zeros) ≡ none
 unfolding the-model translations immediates words
-refused-write = refl
+write-faults = refl

@@ -8,16 +8,16 @@ use native.Mathlib.Omega.{arith}
 use lib.Pow.{low}
 use Rattle.agreement.specs.Riscv.Run.{GuestState, manual, turn}
 use Rattle.agreement.specs.Translation.Replies.{Block, Refusal, Reply.block, Reply.refusal}
-use Rattle.agreement.specs.Turns.Agreement.{Agreement, Along, At, feed, feedOf, feeds, isRefused, leftBy, start}
-use Rattle.agreement.specs.Turns.Machine.{Event, Event.rejected, Event.visited, History, History.end, History.then, RegisterBytes, Turn, Turned, Turned.skip, Turned.visit, bytesAfter, reply, since}
-use Rattle.agreement.specs.Turns.Premises.{Enterable, Premises, Typed}
+use Rattle.agreement.specs.Statement.Agreement.{Agreement, Along, At, feed, feedOf, feeds, isRefused, leftBy, start}
+use Rattle.agreement.specs.Statement.Machine.{Event, Event.rejected, Event.visited, History, History.end, History.then, RegisterBytes, Turn, Turned, Turned.skip, Turned.visit, bytesAfter, reply, since}
+use Rattle.agreement.specs.Statement.Premises.{Enterable, Premises, Typed}
 use Rattle.agreement.specs.X86.Decode.{only}
 use Rattle.agreement.specs.X86.Form.{RAX}
 use Rattle.agreement.specs.X86.Memory.{read}
-use Rattle.agreement.proofs.Turns.Determined.{history-once}
-use Rattle.agreement.proofs.Turns.Reading.{turn-refused}
-use Rattle.agreement.proofs.Turns.Replying.{Replied, Replied.came, Replied.out, replied}
-use Rattle.agreement.proofs.Turns.Visiting.{Done, entered-done}
+use Rattle.agreement.proofs.Theorem.Determined.{history-once}
+use Rattle.agreement.proofs.Theorem.ManualRun.{turn-refused}
+use Rattle.agreement.proofs.Theorem.RefusedAlike.{Replied, Replied.came, Replied.out, replied}
+use Rattle.agreement.proofs.Theorem.OneTurn.{Done, entered-done}
 
 -- the statement from any state m of the manual's run that the register bytes rb agree with
 record Result (m : GuestState) (rb : RegisterBytes) (ts : List Turn) : Type 0 where

@@ -8,12 +8,12 @@ use lib.ListN.{length}
 use Rattle.agreement.specs.Common.{Helper}
 use Rattle.agreement.specs.Riscv.Run.{Feed, GuestState, Left, Read, Stop.called, Stop.plain, readTurn, turn}
 use Rattle.agreement.specs.Translation.Walk.{before}
-use Rattle.agreement.specs.Turns.Agreement.{At, Entered, Helped, Plain, feed, feedOf, isRefused, leftBy}
-use Rattle.agreement.specs.Turns.Machine.{Call, Event, Event.rejected, Event.visited, RegisterBytes, Turn, Turned, Turned.skip, Turned.visit, Visit, Went, Went.helped, Went.plainly}
+use Rattle.agreement.specs.Statement.Agreement.{At, Entered, Helped, Plain, feed, feedOf, isRefused, leftBy}
+use Rattle.agreement.specs.Statement.Machine.{Call, Event, Event.rejected, Event.visited, RegisterBytes, Turn, Turned, Turned.skip, Turned.visit, Visit, Went, Went.helped, Went.plainly}
 use Rattle.agreement.specs.X86.Form.{RAX, RDX}
 use Rattle.agreement.specs.X86.Memory.{read}
 use Rattle.agreement.specs.X86.State.{State}
-use Rattle.agreement.proofs.Turns.Reading.{turn-called, turn-plain, turn-refused}
+use Rattle.agreement.proofs.Theorem.ManualRun.{turn-called, turn-plain, turn-refused}
 
 true-not-false : true ≡ false → ⊥
 true-not-false e = let z : _≡_ {A = ℕ} 0 1 = cc in omega arith

@@ -1,0 +1,7 @@
+pub mod MemoryAtEntry
+pub mod RefusedAlike
+pub mod ManualRun
+pub mod OneTurn
+pub mod Determined
+pub mod Agreement
+pub mod Consequences
