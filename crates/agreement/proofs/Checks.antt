@@ -5,8 +5,12 @@ pub mod Reached
 pub mod Needed
 pub mod Placing
 pub mod Flags
+pub mod FlagsAfter
 pub mod Instructions
 pub mod Faults
 pub mod Example
 pub mod ExampleRuns
+pub mod PremisesMet
+pub mod ExampleStates
+pub mod WitnessEntries
 pub mod Witness

@@ -286,6 +286,7 @@ module _ (undefined : State → Flags) (ok : Permissions) (P : ℕ → Bool) (b 
     pub rdx : u .regs RDX ≡ e .regs RCX
     pub rsp : u .regs RSP ≡ p + 8
     pub target : one undefined callRax u .rip ≡ helperAt k h1 h2
+    pub slots-inside : (r : ℕ) → r < 32 → read 8 (one undefined callRax u .mem) (b + 8 * r) ≡ q .registers r
     pub back : (v : State) → Returned c p code (one undefined callRax u) v → v .regs RDX < 2 ^ 64 → Back q n e v
 
   -- behind the CALL: the earlier count, the closing
@@ -361,6 +362,7 @@ module _ (undefined : State → Flags) (ok : Permissions) (P : ℕ → Bool) (b 
           rdx = fa .rdx ∙ r .mid .r14;
           rsp = w .1 .rsp;
           target = ca .rip ∙ fa .rax;
+          slots-inside = ca .slots;
           back = λ v rt lv. returns q s u v n pre2 (u .regs RAX) (13 + length (part .code) + 6) ln lv z2 ca rt (r .same)
               (count (calls k i pc) e ∙ rw (calls-length h1 h2 k i pc n)) (omega arith);
         },

@@ -19,7 +19,7 @@ use Rattle.agreement.specs.X86.State.{Flags, Permissions, State, set}
 use Rattle.agreement.specs.X86.Step.{Goes, all, next, past, step}
 use Rattle.agreement.proofs.Block.Frame.{Closed, Framed, Opened, above-read, at-read, closed, closing-safe, closing-trace, frame, frame-out, framed, framed-same, opened, opening-safe, opening-trace, stack-all}
 use Rattle.agreement.proofs.Host.Fetching.{Holds, fetch, holds-bytes, holds-ext, holds-split, next-is, one, step-is, writes}
-use Rattle.agreement.proofs.Host.Memory.{read-bytes, read-ext, write-out}
+use Rattle.agreement.proofs.Host.Memory.{read-bytes, read-ext, write-out, read-other}
 use Rattle.agreement.proofs.Host.Straight.{Fine, Kept, Safe, all-append, all-span, goes-append, ran, run, trace, unlogged}
 use Rattle.agreement.proofs.Words.Fit.{Fit}
 use Rattle.agreement.proofs.Words.Slots.{Slots}
@@ -266,10 +266,21 @@ module _ (undefined : State → Flags) (ok : Permissions) (P : ℕ → Bool) (b 
     pub back : read 8 (u .mem) p ≡ at c k
     pub held : Holds (ok .fetch) (u .mem) c code
     pub base : u .regs RBX ≡ b
+    pub slots : (r : ℕ) → r < 32 → read 8 (u .mem) (b + 8 * r) ≡ x r
     pub r12 : u .regs R12 ≡ e .regs RSI
     pub r13 : u .regs R13 ≡ e .regs RDX
     pub r14 : u .regs R14 ≡ e .regs RCX
     pub frame : Framed e p (u .mem)
+
+  -- a slot is not among the eight bytes at p
+  slot-kept : (m : Memory) (v r : ℕ) → r < 32 → read 8 (write 8 m p v) (b + 8 * r) ≡ read 8 m (b + 8 * r)
+  slot-kept m v r l =
+      let f : p + 72 ≤ 2 ^ 64 = pl .p-fits in
+      let g : b + 256 ≤ 2 ^ 64 = pl .b-fits in
+      read-other 8 8 m p v (b + 8 * r) (omega arith) (omega arith) (λ i j h k.
+      let y : at (b + 8 * r) i ≡ b + (8 * r + i) = omega arith in
+      let z : at p j ≡ p + j = omega arith in
+      rw (y, z) (pl .b-p (8 * r + i) j (omega arith) (omega arith)))
 
   pub called-at : (x : Registers) (k : ℕ) (e u : State) → Mid ok b c p code e x k u
       → Inside e x (k + 2) (u .regs RAX) (one undefined callRax u)
@@ -291,6 +302,7 @@ module _ (undefined : State → Flags) (ok : Permissions) (P : ℕ → Bool) (b 
         back = rw me (at-read (u .mem) p v (omega arith) (omega arith));
         held = rw me (holds-ext (ok .fetch) (u .mem) m c code lo kept (h .held));
         base = h .slots .base;
+        slots = λ r l. rw me (slot-kept (u .mem) v r l ∙ h .slots .slots r l);
         r12 = h .r12;
         r13 = h .r13;
         r14 = h .r14;

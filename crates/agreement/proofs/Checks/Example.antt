@@ -1,9 +1,9 @@
 -- A list of turns that meets every premise: the theorem is applied to it, so that its premises are seen to be met.
--- Registers at 0x10000, block at 0x20000, entry stack pointer 0x30008. The block may only be fetched from, the registers and
--- the stack only read and written, and nothing else may be touched.
+-- Registers at 0x10000, block at 0x20000; three entry stack pointers, two of which differ modulo 32, and one as high as can
+-- be. The block may only be fetched from, the registers and the stack only read and written, and nothing else may be touched.
 use mathlib.Core.Bool.{Bool, false, _&&_, _||_}
 use mathlib.Core.List.{List, [], _∷_}
-use Prim.Native.Nat.{ℕ, _+_, _*_}
+use Prim.Native.Nat.{ℕ, _+_, _-_, _*_, _%_}
 use lib.ListN.{replicate}
 use lib.Dec.{leb, ltb}
 use Rattle.agreement.specs.X86.Memory.{at, read, write}
@@ -16,11 +16,12 @@ use Rattle.agreement.proofs.Checks.Cases.{words}
 unfoldable pub range : ℕ → ℕ → ℕ → Bool
 range a n x = leb a x && ltb x (a + n)
 
-abbrev pub permissions : Permissions
-permissions = record {
+-- with the stack from 64 below sp to 8 above it
+abbrev pub permissions : ℕ → Permissions
+permissions sp = record {
   fetch = range 0x20000 2243;
-  read = λ x. range 0x10000 256 x || range 0x2FFC8 72 x;
-  write = λ x. range 0x10000 256 x || range 0x2FFC8 72 x;
+  read = λ x. range 0x10000 256 x || range (sp - 64) 72 x;
+  write = λ x. range 0x10000 256 x || range (sp - 64) 72 x;
 }
 
 -- a helper that sets slot r to v and slot x0 to 0, and returns with RAX and RDX as given
@@ -35,8 +36,9 @@ leaves r v rax rdx u = record {
 abbrev pub clear : Flags
 clear = record { cf = false; pf = false; af = false; zf = false; sf = false; of = false }
 
-abbrev pub turnOf : List ℕ → (State → State) → Turn
-turnOf hs helper = record {
+-- no two registers and no two neighbouring bytes of memory hold the same
+abbrev pub turnOf : ℕ → List ℕ → (State → State) → Turn
+turnOf sp hs helper = record {
   limit = 64;
   halfwords = hs;
   helper16 = 0x1111;
@@ -44,11 +46,11 @@ turnOf hs helper = record {
   output = replicate 2243 0;
   block = 0x20000;
   base = 0x10000;
-  sp = 0x30008;
-  others = λ k. 5;
+  sp = sp;
+  others = λ k. 100 + k;
   flags = clear;
-  rest = λ a. 0xCC;
-  ok = permissions;
+  rest = λ a. a % 256;
+  ok = permissions sp;
   undefined = λ s. clear;
   helper = helper;
 }
@@ -74,15 +76,15 @@ refusedTurn = record {
 
 -- ADDI x1, x0, 5; LD x1, 0(x1): the helper leaves x1 = 7, the pc 0x80000010 and RDX 3
 abbrev pub helperTurn : Turn
-helperTurn = turnOf (words (0x00500093 ∷ 0x0000B083 ∷ [])) (leaves 1 7 0x80000010 3)
+helperTurn = turnOf 0x30008 (words (0x00500093 ∷ 0x0000B083 ∷ [])) (leaves 1 7 0x80000010 3)
 
 -- ADDI x2, x1, 1; BNE x1, x2, 16: no helper is called
 abbrev pub plainTurn : Turn
-plainTurn = turnOf (words (0x00108113 ∷ 0x00209863 ∷ [])) (leaves 1 0 0 0)
+plainTurn = turnOf 0x30018 (words (0x00108113 ∷ 0x00209863 ∷ [])) (leaves 1 0 0 0)
 
--- a compressed halfword: the helper leaves x10 = 9 and an odd pc
+-- a compressed halfword, the return address in the last eight bytes of memory: the helper leaves x10 = 9 and an odd pc
 abbrev pub halfwordTurn : Turn
-halfwordTurn = turnOf (0x4501 ∷ []) (leaves 10 9 0x80000031 1)
+halfwordTurn = turnOf 0xFFFFFFFFFFFFFFF8 (0x4501 ∷ []) (leaves 10 9 0x80000031 1)
 
 -- the first pc, and register bytes that are all zero
 abbrev pub firstPc : ℕ

@@ -38,7 +38,7 @@ the-model = tt
 
 -- 32 steps: x1 is 0, so x2 becomes 1 and the branch is taken; 48 bytes of stack and the 8 of slot x2 are written
 executed : summary (steps (plainTurn .undefined) (plainTurn .ok) 32 (enter plainTurn code zeros))
-    ≡ (0x80000024, 2, 0x30010, 1, 56)
+    ≡ (0x80000024, 2, 0x30020, 1, 56)
 unfolding the-model translations immediates words range leaves
 executed = refl
 

@@ -40,3 +40,6 @@ leb-true a b e = leb→le a b (of-true (leb a b) e)
 
 pub leb-false : (a b : ℕ) → leb a b ≡ false → b < a
 leb-false a b e = nleb→lt a b (of-false (leb a b) e)
+
+pub eqb-true : (a b : ℕ) → eqb a b ≡ true → a ≡ b
+eqb-true a b e = eqb→eq a b (of-true (eqb a b) e)

@@ -79,9 +79,9 @@ one-more t ts m m2 rb rb2 e h a z c r =
 
 -- a refused one
 skipped : (t : Turn) (ts : List Turn) (m : GuestState) (rb : RegisterBytes) (r : Refusal)
-    → reply t (m .pc) ≡ refusal r → isRefused t m ≡ true → Result m rb ts → Result m rb (t ∷ ts)
-skipped t ts m rb r e f k =
-    one-more t ts m m rb rb (rejected (m .pc) r) (skip e) (unfold At in (f, refl)) same (λ es. unfold since in refl) k
+    → reply t (m .pc) ≡ refusal r → isRefused t m ≡ true → m .registers 0 ≡ 0 → Result m rb ts → Result m rb (t ∷ ts)
+skipped t ts m rb r e f x0 k =
+    one-more t ts m m rb rb (rejected (m .pc) r) (skip e) (unfold At in record { refuses = f; at-pc = refl; x0 = x0 }) same (λ es. unfold since in refl) k
   where
     same : turn (feed t (rejected (m .pc) r)) m ≡ m
     same = unfold feed feedOf leftBy in turn-refused (feedOf t none) m (unfold feedOf in f)
@@ -123,7 +123,7 @@ turns (t ∷ ts) m rb g low sl z = go (split (m .pc) rb t ts g .0) (replied t (m
     later = split (m .pc) rb t ts g .2
 
     go : Typed t → Replied t (m .pc) → Agrees ts → Result m rb (t ∷ ts)
-    go ty (out r e f) k = skipped t ts m rb r e f (k m rb (later (rejected (m .pc) r) (m .pc) rb (skip e)) low sl z)
+    go ty (out r e f) k = skipped t ts m rb r e f z (k m rb (later (rejected (m .pc) r) (m .pc) rb (skip e)) low sl z)
     go ty (came e f) k =
         let en = split (m .pc) rb t ts g .1 _ e in
         let d = entered-done t m rb ty low sl z e f en in

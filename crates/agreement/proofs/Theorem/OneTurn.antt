@@ -12,7 +12,7 @@ use Rattle.agreement.specs.Riscv.Run.{Feed, GuestState, Left, Read, Regi
 use Rattle.agreement.specs.Translation.Emit.{addCount, closing, opening, passes}
 use Rattle.agreement.specs.Translation.Replies.{Block, Reply.block, blockOf, walked}
 use Rattle.agreement.specs.Translation.Walk.{End, End.calls, End.goesOn, End.jumped, Walked, before, counted, ending, helperAt, instrs}
-use Rattle.agreement.specs.Statement.Agreement.{At, Entered, Returns, feed, feedOf, helperOf, isRefused, leftBy, own}
+use Rattle.agreement.specs.Statement.Agreement.{At, Entered, Returns, feed, feedOf, helperOf, inReturn, inSaved, inSlots, isRefused, leftBy, own}
 use Rattle.agreement.specs.Statement.Machine.{By, Call, Event.visited, RegisterBytes, Steps, Turn, Visit, Went, Went.helped, Went.plainly, bytesAfter, enter, plusRdx, reply}
 use Rattle.agreement.specs.Statement.Premises.{Enterable, Keeps, Layout, Typed}
 use Rattle.agreement.specs.X86.Decode.{Bytes, Operand.mem}
@@ -46,35 +46,25 @@ or-right false b e = e
 pub between : (lo hi x : ℕ) → lo ≤ x → x < hi → leb lo x && ltb x hi ≡ true
 between lo hi x h k = rw (leb-yes lo x h) (leb-yes (suc x) hi k)
 
--- the three ranges of `own`
-abbrev in-slots : Turn → ℕ → Bool
-in-slots t x = leb (t .base + 8) x && ltb x (t .base + 256)
-
-abbrev in-frame : Turn → ℕ → Bool
-in-frame t x = leb (t .sp - 48) x && ltb x (t .sp)
-
-abbrev in-call : Turn → ℕ → Bool
-in-call t x = leb (t .sp - 64) x && ltb x (t .sp - 56)
-
 own-slot : (t : Turn) (i : ℕ) → 8 ≤ i → i < 256 → own t (t .base + i) ≡ true
 unfolding own
 own-slot t i h k =
     let x : ℕ = t .base + i in
-    or-left (in-slots t x) (in-frame t x || in-call t x) (between (t .base + 8) (t .base + 256) x (omega arith) (omega arith))
+    or-left (inSlots t x) (inSaved t x || inReturn t x) (between _ _ x (omega arith) (omega arith))
 
-own-frame : (t : Turn) (i : ℕ) → 64 ≤ t .sp → 16 ≤ i → i < 64 → own t (t .sp - 64 + i) ≡ true
+own-saved : (t : Turn) (i : ℕ) → 64 ≤ t .sp → 16 ≤ i → i < 64 → own t (t .sp - 64 + i) ≡ true
 unfolding own
-own-frame t i l h k =
+own-saved t i l h k =
     let x : ℕ = t .sp - 64 + i in
-    or-right (in-slots t x) (in-frame t x || in-call t x)
-    (or-left (in-frame t x) (in-call t x) (between (t .sp - 48) (t .sp) x (omega arith) (omega arith)))
+    or-right (inSlots t x) (inSaved t x || inReturn t x)
+    (or-left (inSaved t x) (inReturn t x) (between _ _ x (omega arith) (omega arith)))
 
-own-call : (t : Turn) (i : ℕ) → 64 ≤ t .sp → i < 8 → own t (t .sp - 64 + i) ≡ true
+own-return : (t : Turn) (i : ℕ) → 64 ≤ t .sp → i < 8 → own t (t .sp - 64 + i) ≡ true
 unfolding own
-own-call t i l k =
+own-return t i l k =
     let x : ℕ = t .sp - 64 + i in
-    or-right (in-slots t x) (in-frame t x || in-call t x)
-    (or-right (in-frame t x) (in-call t x) (between (t .sp - 64) (t .sp - 56) x (omega arith) (omega arith)))
+    or-right (inSlots t x) (inSaved t x || inReturn t x)
+    (or-right (inSaved t x) (inReturn t x) (between _ _ x (omega arith) (omega arith)))
 
 place : (t : Turn) (code : List ℕ) → Layout t (length code) → 1 ≤ length code → Place (t .ok) (own t) (t .base) (t .block) (t .sp - 64) code
 place t code l n = record {
@@ -90,8 +80,8 @@ place t code l n = record {
   p-read = l .stack-read;
   p-write = l .stack-write;
   own-b = own-slot t;
-  own-p = λ i h k. own-frame t i (l .stack-low) h k;
-  own-r = λ i k. own-call t i (l .stack-low) k;
+  own-p = λ i h k. own-saved t i (l .stack-low) h k;
+  own-r = λ i k. own-return t i (l .stack-low) k;
 }
 
 -- 2. The state at entry
@@ -273,13 +263,19 @@ module _ (t : Turn) (m : GuestState) (rb : RegisterBytes) (ty : Typed t) (low : 
     no-log : all (own t) [] ≡ true
     no-log = unfold all in refl
 
-    returns-by : (w u : State) (n : ℕ) (ws : List ℕ) (c : Option Call)
+    -- slot x0 is x0
+    slot-zero : (s : State) (x : ℕ) → read 8 (s .mem) (t .base + 8 * 0) ≡ x → x ≡ 0 → read 8 (s .mem) (t .base) ≡ 0
+    slot-zero s x h e = let z : t .base + 8 * 0 ≡ t .base = omega arith in rw z at (h ∙ e)
+
+    returns-by : (w u : State) (n : ℕ) (ws : List ℕ) (c : Option Call) → read 8 (u .mem) (t .base) ≡ 0
         → Exit (t .sp - 64) s0 w u → n ≡ length (instrs (t .helper16) (t .helperMem) p)
         → all (own t) ws ≡ true → Returns t m (m .pc) (record { entry = s0; call = c; exit = u; steps = n; log = ws })
-    returns-by w u n ws c e k l = record {
+    returns-by w u n ws c x0 e k l = record {
       accepted = rf;
       entry-pc = refl;
       entry-slots = entry-slots;
+      entry-x0 = slot-zero s0 (m .registers 0) (entry-slots 0 (omega arith)) zero0;
+      exit-x0 = x0;
       rip = rw sp-is at (e .rip);
       rsp = rw sp-is at (e .rsp);
       rbx = e .rbx;
@@ -311,7 +307,8 @@ module _ (t : Turn) (m : GuestState) (rb : RegisterBytes) (ty : Typed t) (low : 
       reply-is = re;
       went = unfold s0 in plainly (l .way .goes) (by-step t ret (l .fetch) (l .does));
       at = unfold At Entered in (
-        returns-by (l .w) (l .t) (suc (l .n)) (l .way .ws ++ []) none (l .exit) (l .steps)
+        returns-by (l .w) (l .t) (suc (l .n)) (l .way .ws ++ []) none
+            (slot-zero (l .t) (q .registers 0) (rw (l .exit .same) (l .slots 0 (omega arith))) (kept .x0 ∙ zero0)) (l .exit) (l .steps)
             (all-append (own t) (l .way .ws) [] (l .way .own) no-log),
         record {
           stop = st;
@@ -365,7 +362,8 @@ module _ (t : Turn) (m : GuestState) (rb : RegisterBytes) (ty : Typed t) (low : 
           went = unfold s0 in helped (c .way .goes) (by-step t callRax (c .call .fetch) (c .call .does))
               (r .way .goes) (by-step t ret (r .fetch) (r .does));
           at = unfold At Entered in (
-            returns-by (r .w) (r .t) (suc (c .n) + suc (r .m)) ((c .way .ws ++ c .call .ws) ++ (r .way .ws ++ [])) _ (r .exit) (r .steps)
+            returns-by (r .w) (r .t) (suc (c .n) + suc (r .m)) ((c .way .ws ++ c .call .ws) ++ (r .way .ws ++ [])) _
+                (rw (r .exit .same ∙ r .same) (kp .x0)) (r .exit) (r .steps)
                 (all-append (own t) (c .way .ws ++ c .call .ws) (r .way .ws ++ [])
                 (all-append (own t) (c .way .ws) (c .call .ws) (c .way .own) (c .call .own))
                 (all-append (own t) (r .way .ws) [] (r .way .own) no-log)),
@@ -379,8 +377,10 @@ module _ (t : Turn) (m : GuestState) (rb : RegisterBytes) (ty : Typed t) (low : 
               rdi = c .rdi;
               rsi = c .rsi;
               rdx = c .rdx;
-              rsp = rw (c .rsp) (omega (arith, ly .aligned, ly .stack-low));
+              rsp = rw (c .rsp) (omega (arith, ly .stack-low));
+              aligned = rw (c .rsp) (omega (arith, ly .aligned, ly .stack-low));
               target = c .target ∙ target-is k;
+              slots-inside = c .slots-inside;
               rest = λ y e. step-unlogged (t .undefined) (t .ok) (own t) (c .u) a (c .call .ws) y (c .call .does) (c .call .own) e
                   ∙ way-out (t .undefined) (t .ok) (own t) s0 (c .u) (c .n) (c .way) y e;
               rax′ = r .exit .rax ∙ r .rax;

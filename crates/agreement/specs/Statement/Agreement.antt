@@ -43,19 +43,31 @@ start pc rb = record { registers = λ r. read 8 rb (8 * r); pc = pc; count = 0 }
 abbrev pub isRefused : Turn → GuestState → Bool
 isRefused t m = refused (t .limit) (m .pc) (t .halfwords) (length (t .output))
 
--- the addresses that a block may write: slots x1 to x31, and 56 bytes of stack: 48 below the entry stack pointer and the 8
--- of the call's return address. (The frame that a helper keeps has 56 too: those 48, and the 8 at the entry stack pointer.)
-unfoldable pub own : Turn → ℕ → Bool
-own t x =
-    (leb (t .base + 8) x && ltb x (t .base + 256))
-    || ((leb (t .sp - 48) x && ltb x (t .sp)) || (leb (t .sp - 64) x && ltb x (t .sp - 56)))
+-- the addresses that a block may write: slots x1 to x31, and 56 bytes of stack, 48 for the six registers that it saves below
+-- the entry stack pointer and 8 for the return address of its call. The 8 bytes between these, which make the stack
+-- pointer a multiple of 16 at the call, are not written. (The frame that a helper keeps has 56 bytes too: those 48, and the
+-- 8 at the entry stack pointer.)
+abbrev pub inSlots : Turn → ℕ → Bool
+inSlots t x = leb (t .base + 8) x && ltb x (t .base + 256)
 
--- every entry: at the manual's pc with the manual's registers; back to the address that stands at the entry stack
--- pointer, the stack pointer 8 higher, the psABI's saved registers as at entry; a step an instruction of the block
+abbrev pub inSaved : Turn → ℕ → Bool
+inSaved t x = leb (t .sp - 48) x && ltb x (t .sp)
+
+abbrev pub inReturn : Turn → ℕ → Bool
+inReturn t x = leb (t .sp - 64) x && ltb x (t .sp - 56)
+
+unfoldable pub own : Turn → ℕ → Bool
+own t x = inSlots t x || (inSaved t x || inReturn t x)
+
+-- every entry: at the manual's pc with the manual's registers; slot x0 zero, at entry and at return; back to the address that
+-- stands at the entry stack pointer, the stack pointer 8 higher, the psABI's saved registers as at entry; a step an
+-- instruction of the block
 pub record Returns (t : Turn) (m : GuestState) (pc : ℕ) (v : Visit) : Type 0 where
   pub accepted : isRefused t m ≡ false
   pub entry-pc : pc ≡ m .pc
   pub entry-slots : (r : ℕ) → r < 32 → read 8 (v .entry .mem) (t .base + 8 * r) ≡ m .registers r
+  pub entry-x0 : read 8 (v .entry .mem) (t .base) ≡ 0
+  pub exit-x0 : read 8 (v .exit .mem) (t .base) ≡ 0
   pub rip : v .exit .rip ≡ read 8 (v .entry .mem) (t .sp)
   pub rsp : v .exit .regs RSP ≡ at (t .sp) 8
   pub rbx : v .exit .regs RBX ≡ v .entry .regs RBX
@@ -81,7 +93,8 @@ abbrev pub helperOf : Turn → Helper → ℕ
 helperOf t forHalfword = t .helper16
 helperOf t forAccess = t .helperMem
 
--- an entry with the call c of the helper h for the instruction i: just before the call; then at return
+-- an entry with the call c of the helper h for the instruction i: just before the call; at the helper's first instruction,
+-- where the slots are still the registers (the CALL has pushed its return address); then at return
 pub record Helped (t : Turn) (n : ℕ) (v : Visit) (c : Call) (q : Read) : Type 0 where
   pub h : Helper
   pub i : ℕ
@@ -92,8 +105,10 @@ pub record Helped (t : Turn) (n : ℕ) (v : Visit) (c : Call) (q : Read) : Type 
   pub rdi : c .before .regs RDI ≡ v .entry .regs RSI
   pub rsi : c .before .regs RSI ≡ v .entry .regs RDX
   pub rdx : c .before .regs RDX ≡ v .entry .regs RCX
-  pub rsp : c .before .regs RSP % 16 ≡ 0
+  pub rsp : c .before .regs RSP ≡ t .sp - 56
+  pub aligned : c .before .regs RSP % 16 ≡ 0
   pub target : c .inside .rip ≡ helperOf t h
+  pub slots-inside : (r : ℕ) → r < 32 → read 8 (c .inside .mem) (t .base + 8 * r) ≡ q .registers r
   pub rest : (x : ℕ) → own t x ≡ false → c .inside .mem x ≡ v .entry .mem x
   pub rax′ : v .exit .regs RAX ≡ c .back .regs RAX
   pub rdx′ : v .exit .regs RDX ≡ (c .back .regs RDX + q .added) % 2 ^ 64
@@ -104,9 +119,15 @@ unfoldable pub Entered : Turn → ℕ → Visit → Read → Option Call → Typ
 Entered t n v q none = Plain t n v q
 Entered t n v q (some c) = Helped t n v c q
 
+-- a turn that was refused: the manual's run refuses it too, at the same pc, and x0 is zero
+pub record Rejected (t : Turn) (m : GuestState) (pc : ℕ) : Type 0 where
+  pub refuses : isRefused t m ≡ true
+  pub at-pc : pc ≡ m .pc
+  pub x0 : m .registers 0 ≡ 0
+
 -- how a turn is read does not depend on what its helper left: `readTurn` does not look there
 unfoldable pub At : GuestState → Turn → Event → Type 0
-At m t (rejected pc r) = (isRefused t m ≡ true) × (pc ≡ m .pc)
+At m t (rejected pc r) = Rejected t m pc
 At m t (visited pc n v) = Returns t m pc v × Entered t n v (readTurn (feedOf t none) m) (v .call)
 
 -- along the list, the manual's run going from turn to turn
