@@ -1,5 +1,5 @@
 -- Demand 3, of the code: lists of turns in which each turn is a call of `translate` and an entry of what that call left.
--- `Turned` and `History` of crate agreement (Turns/Machine) take a turn's reply from the definition; here it is read off an
+-- `Turned` and `History` of crate agreement (Statement/Machine) take a turn's reply from the definition; here it is read off an
 -- answer and an output that the contract of `translate` allows, and nothing else is known of them.
 use mathlib.Core.Path.{_≡_}
 use mathlib.Core.List.{List, [], _∷_}
@@ -32,7 +32,7 @@ pub data Run : ℕ → RegisterBytes → List Turn → List Event → ℕ → Re
   then : {pc pc′ pc″ : ℕ} {rb rb′ rb″ : RegisterBytes} {t : Turn} {ts : List Turn} {e : Event} {es : List Event}
       → Ran pc rb t e pc′ rb′ → Run pc′ rb′ ts es pc″ rb″ → Run pc rb (t ∷ ts) (e ∷ es) pc″ rb″
 
--- all that crate agreement states of the list (Turns/Agreement) holds of the code's run, and there is one run, and no other
+-- all that crate agreement states of the list (Statement/Agreement) holds of the code's run, and there is one run, and no other
 pub record AgreesInCode (pc : ℕ) (rb : RegisterBytes) (ts : List Turn) : Type 0 where
   pub agrees : Agrees pc rb ts
   pub run : Run pc rb ts (agrees .events) (agrees .pc′) (agrees .rb′)

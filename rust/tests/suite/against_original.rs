@@ -156,7 +156,7 @@ fn every_end_at_every_count() {
                     0 => run.extend(words::halves(words::ending(&mut r))),
                     1 => run.extend(words::halves(words::memory(&mut r))),
                     2 => run.push(words::halfword(&mut r)),
-                    3 => run.extend(words::halves(words::refused(&mut r))),
+                    3 => run.extend(words::halves(words::not_taken(&mut r))),
                     4 => run.push(0x0093),
                     _ => {}
                 }

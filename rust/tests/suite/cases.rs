@@ -111,9 +111,9 @@ fn mulh() {
     assert_eq!(refusal(&[0x91B3, 0x0220]), Refusal::NotTaken(0x0220_91B3));
 }
 
-/// What refused words leave: 17 bytes for BRANCH, 14 for OP and OP_32, 7 for OP_IMM and OP_IMM_32, else none.
+/// What words that are not taken leave: 17 bytes for BRANCH, 14 for OP and OP_32, 7 for OP_IMM and OP_IMM_32, else none.
 #[test]
-fn left_by_refused_words() {
+fn left_by_words_not_taken() {
     let behind_addi = |word: u32| {
         let run = [ADDI, [word as u16, (word >> 16) as u16]].concat();
         size(&run).0 - 88

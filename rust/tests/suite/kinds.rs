@@ -178,7 +178,7 @@ fn sorts_of_words() {
         of_kind(words::straight(&mut r), WordKind::Straight);
         of_kind(words::ending(&mut r), WordKind::Ending);
         of_kind(words::memory(&mut r), WordKind::MemoryHelper);
-        of_kind(words::refused(&mut r), WordKind::NotTaken);
+        of_kind(words::not_taken(&mut r), WordKind::NotTaken);
         let word = words::halfword(&mut r) as u32;
         assert!(taken(&mut comparison, start, word), "{word:08x}");
     }

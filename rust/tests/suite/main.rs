@@ -1,5 +1,6 @@
 //! One program of tests: the crate against the original Rust, emuko linked with it against the original emulator, blocks entered on this
-//! processor against an interpreter of the RISC-V manual, document 01's cases, the C header and README's lines. Seeds are fixed.
+//! processor against an interpreter of the RISC-V manual, document 01's cases, the C header, README's lines and what
+//! the papers say of the repository. Seeds are fixed.
 
 mod against_original;
 mod cases;
@@ -10,6 +11,7 @@ mod kinds;
 mod linked;
 #[cfg(all(target_arch = "x86_64", target_os = "linux"))]
 mod manual;
+mod papers;
 mod placing;
 mod random;
 mod readme;

@@ -51,7 +51,7 @@ pub fn run(r: &mut Random) -> Vec<u16> {
         0..=2 => run.extend(words::halves(words::ending(r))),
         3..=4 => run.extend(words::halves(words::memory(r))),
         5..=6 => run.push(words::halfword(r)),
-        7..=8 => run.extend(words::halves(words::refused(r))),
+        7..=8 => run.extend(words::halves(words::not_taken(r))),
         // A word without its second halfword.
         9 => run.push(r.u32() as u16 | 3),
         _ => {}

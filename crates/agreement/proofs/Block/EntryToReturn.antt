@@ -16,11 +16,13 @@ use Rattle.agreement.specs.Translation.Walk.{End, End.calls, End.goesOn,
 use Rattle.agreement.specs.X86.Encode.{bytes, encode}
 use Rattle.agreement.specs.X86.Execute.{exec}
 use Rattle.agreement.specs.X86.Flags.{aluValue, sext}
-use Rattle.agreement.specs.X86.Form.{Alu.add, Instr, Instr.aluImm32, Instr.callRax, Instr.movImm64, Instr.ret, Ok, R12, R13, R14, R8, RAX, RBX, RCX, RDI, RDX, RSI, RSP}
+use Rattle.agreement.specs.X86.Form.{Alu.add, Instr, Instr.aluImm32, Instr.callRax, Instr.movImm64, Instr.ret}
+use Rattle.agreement.specs.X86.Form.{Ok, R12, R13, R14, R8, RAX, RBX, RCX, RDI, RDX, RSI, RSP}
 use Rattle.agreement.specs.X86.Memory.{at, read}
 use Rattle.agreement.specs.X86.State.{Flags, Permissions, State}
 use Rattle.agreement.specs.X86.Step.{next, past, step, steps}
-use Rattle.agreement.proofs.Block.Stages.{Calls, Entry, Exit, Inside, Mid, Place, Returned, Way, begin, call-step, called-at, came-back, go-on, leave, way-append}
+use Rattle.agreement.proofs.Block.Stages.{Calls, Entry, Exit, Inside, Mid, Place, Returned, Way, begin, call-step, called-at}
+use Rattle.agreement.proofs.Block.Stages.{came-back, go-on, leave, way-append}
 use Rattle.agreement.proofs.Host.Fetching.{fetch, one}
 use Rattle.agreement.proofs.Host.Straight.{Fine, append-nil, bytes-append, run}
 use Rattle.agreement.proofs.Laws.Tests.{leb-no, of-true}

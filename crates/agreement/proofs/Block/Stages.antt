@@ -17,7 +17,8 @@ use Rattle.agreement.specs.X86.Form.{Instr, Instr.callRax, Instr.ret, Ok
 use Rattle.agreement.specs.X86.Memory.{Memory, at, read, span, write}
 use Rattle.agreement.specs.X86.State.{Flags, Permissions, State, set}
 use Rattle.agreement.specs.X86.Step.{Goes, all, next, past, step}
-use Rattle.agreement.proofs.Block.Frame.{Closed, Framed, Opened, above-read, at-read, closed, closing-safe, closing-trace, frame, frame-out, framed, framed-same, opened, opening-safe, opening-trace, stack-all}
+use Rattle.agreement.proofs.Block.Frame.{Closed, Framed, Opened, above-read, at-read, closed, closing-safe, closing-trace, frame}
+use Rattle.agreement.proofs.Block.Frame.{frame-out, framed, framed-same, opened, opening-safe, opening-trace, stack-all}
 use Rattle.agreement.proofs.Host.Fetching.{Holds, fetch, holds-bytes, holds-ext, holds-split, next-is, one, step-is, writes}
 use Rattle.agreement.proofs.Host.Memory.{read-bytes, read-ext, write-out, read-other}
 use Rattle.agreement.proofs.Host.Straight.{Fine, Kept, Safe, all-append, all-span, goes-append, ran, run, trace, unlogged}

@@ -3,7 +3,8 @@ use mathlib.Core.Path.{_≡_, refl}
 use mathlib.Core.Bool.{true}
 use Rattle.agreement.specs.Riscv.Immediates as Manual
 use Rattle.agreement.specs.Translation.Decode32 as Decode32
-use Rattle.agreement.specs.Translation.Kind.{match, kindOp, kindOp32, kindOpImm, kindOpImm32, kindBranch, kindLoad, kindStore, kindFence, kindOf, kind}
+use Rattle.agreement.specs.Translation.Kind.{match, kindOp, kindOp32, kindOpImm, kindOpImm32, kindBranch, kindLoad, kindStore}
+use Rattle.agreement.specs.Translation.Kind.{kindFence, kindOf, kind}
 use Rattle.agreement.specs.Translation.Emit.{leftover}
 use Rattle.agreement.specs.Translation.Walk.{emit, walk, ending, instrs, counted}
 use Rattle.agreement.specs.Translation.Replies.{numbered, firstWord, first, byFirst, translate}

@@ -8,7 +8,8 @@ use lib.ListN.{length}
 use Rattle.agreement.specs.Translation.Replies.{walked}
 use Rattle.agreement.specs.Translation.Walk.{instrs}
 use Rattle.agreement.specs.Statement.Machine.{enter}
-use Rattle.agreement.specs.X86.Decode.{aluOf, ccOf, decode, imm, loaded, memory, modrm, moved, onReg, only, opcode0F, opcode1, pick, shiftOf, sib, widthOf}
+use Rattle.agreement.specs.X86.Decode.{aluOf, ccOf, decode, imm, loaded, memory, modrm, moved, onReg, only, opcode0F, opcode1, pick}
+use Rattle.agreement.specs.X86.Decode.{shiftOf, sib, widthOf}
 use Rattle.agreement.specs.X86.Encode.{bytes}
 use Rattle.agreement.specs.X86.Execute.{accesses, exec}
 use Rattle.agreement.specs.X86.Flags.{addFlags, aluFlags, aluValue, evenOnes, holds, logicFlags, ones, sext, subFlags}

@@ -5,7 +5,8 @@ use mathlib.Core.List.{List, [], _∷_}
 use mathlib.Core.Path.{_≡_, refl}
 use Prim.Native.Nat.{_*_, _+_, _-_, _^_, ℕ}
 use lib.Dec.{eqb}
-use Rattle.agreement.specs.X86.Flags.{addFlags, aluFlags, bitOf, evenOnes, imulFlags, logicFlags, ones, sext, shiftFlags, shiftOverflow, shifted, shiftedOut, subFlags}
+use Rattle.agreement.specs.X86.Flags.{addFlags, aluFlags, bitOf, evenOnes, imulFlags, logicFlags, ones, sext, shiftFlags}
+use Rattle.agreement.specs.X86.Flags.{shiftOverflow, shifted, shiftedOut, subFlags}
 use Rattle.agreement.specs.X86.Form.{Alu, Alu.add, Alu.and, Alu.cmp, Alu.or, Alu.sub, Alu.xor, Shift, Shift.sar, Shift.shl, Shift.shr}
 use Rattle.agreement.specs.X86.State.{Flags}
 

@@ -14,7 +14,8 @@ use Rattle.agreement.specs.Statement.Premises.{Enterable, Halfwords, Kee
 use Rattle.agreement.specs.X86.Memory.{Memory, at, read, write}
 use Rattle.agreement.specs.X86.State.{State}
 use Rattle.agreement.proofs.Checks.Cases.{words}
-use Rattle.agreement.proofs.Checks.Example.{firstPc, fiveTurns, halfwordTurn, helperTurn, leaves, plainTurn, range, refusedTurn, threeTurns, turnOf, zeros}
+use Rattle.agreement.proofs.Checks.Example.{firstPc, fiveTurns, halfwordTurn, helperTurn, leaves, plainTurn, range, refusedTurn}
+use Rattle.agreement.proofs.Checks.Example.{threeTurns, turnOf, zeros}
 use Rattle.agreement.proofs.Host.Memory.{read-write, write-out}
 use Rattle.agreement.proofs.Laws.Length.{lengths}
 use Rattle.agreement.proofs.Theorem.Agreement.{agreement}

@@ -10,10 +10,13 @@ use Rattle.agreement.specs.Statement.Machine.{Event, History, History.en
 use Rattle.agreement.specs.X86.Memory.{read}
 use Rattle.agreement.specs.X86.State.{State}
 use Rattle.agreement.proofs.Checks.Example.{firstPc, fiveTurns, halfwordTurn, helperTurn, plainTurn, refusedTurn, threeTurns, zeros}
-use Rattle.agreement.proofs.Checks.ExampleStates.{AfterThree, Five, after-five, after-three, fifth-refused, first-refused, fourth-calls, fourth-taken, m0, m2, m3, second-calls, second-taken, third-plain, third-taken}
+use Rattle.agreement.proofs.Checks.ExampleStates.{AfterThree, Five, after-five, after-three, fifth-refused, first-refused}
+use Rattle.agreement.proofs.Checks.ExampleStates.{fourth-calls, fourth-taken, m0, m2, m3, second-calls, second-taken, third-plain}
+use Rattle.agreement.proofs.Checks.ExampleStates.{third-taken}
 use Rattle.agreement.proofs.Checks.PremisesMet.{five, three}
 use Rattle.agreement.proofs.Checks.WitnessEntries.{HalfwordSays, HelperSays, PlainSays, halfword-says, helper-says, plain-says}
-use Rattle.agreement.proofs.Theorem.Consequences.{WentHelped, WentPlainly, after-helper, after-plain, after-refused, afterHelper, refused-x0}
+use Rattle.agreement.proofs.Theorem.Consequences.{WentHelped, WentPlainly, after-helper, after-plain, after-refused, afterHelper}
+use Rattle.agreement.proofs.Theorem.Consequences.{refused-x0}
 
 -- 1. Turn by turn
 

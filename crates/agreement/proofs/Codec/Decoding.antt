@@ -1,4 +1,4 @@
--- decoding what the encoder writes
+-- Decoding what the encoder writes gives the instruction back, and its length.
 use mathlib.Core.Bool.{false, true}
 use mathlib.Core.List.{List, _++_, _∷_, append-assoc}
 use mathlib.Core.Option.{some}
@@ -9,9 +9,16 @@ use native.Mathlib.Nat.{pow-suc, pow-zero}
 use native.Mathlib.Omega.{arith}
 use lib.Dec.{eqb}
 use Rattle.agreement.specs.Riscv.Run.{Stop.plain}
-use Rattle.agreement.specs.X86.Decode.{Answer, Operand, Operand.mem, Operand.reg, aluOf, ccOf, decode, imm, loaded, memory, modrm, moved, onReg, only, opcode0F, opcode1, pick, shiftOf, sib, widthOf}
+use Rattle.agreement.specs.X86.Decode.{Answer, Operand, Operand.mem, Operand.reg}
+use Rattle.agreement.specs.X86.Decode.{aluOf, ccOf, decode, imm, loaded, memory, modrm, moved, onReg, only, opcode0F, opcode1, pick}
+use Rattle.agreement.specs.X86.Decode.{shiftOf, sib, widthOf}
 use Rattle.agreement.specs.X86.Encode.{ccNumber, digit, encode, modMem, modReg, rex, shiftDigit}
-use Rattle.agreement.specs.X86.Form.{Alu, Alu.add, Alu.and, Alu.cmp, Alu.or, Alu.sub, Alu.xor, Cc, Cc.AE, Cc.B, Cc.E, Cc.GE, Cc.L, Cc.NE, Instr, Instr.alu, Instr.aluImm32, Instr.aluImm8, Instr.callRax, Instr.cmov, Instr.imul, Instr.load, Instr.mov, Instr.movImm64, Instr.movsxd, Instr.movzx, Instr.pop, Instr.push, Instr.ret, Instr.setccAl, Instr.shiftCl, Instr.shiftImm8, Instr.store, Ok, Shift, Shift.sar, Shift.shl, Shift.shr, Width, Width.r32, Width.r64}
+use Rattle.agreement.specs.X86.Form.{Alu, Alu.add, Alu.and, Alu.cmp, Alu.or, Alu.sub, Alu.xor, Cc}
+use Rattle.agreement.specs.X86.Form.{Cc.AE, Cc.B, Cc.E, Cc.GE, Cc.L, Cc.NE, Instr}
+use Rattle.agreement.specs.X86.Form.{Instr.alu, Instr.aluImm32, Instr.aluImm8, Instr.callRax, Instr.cmov, Instr.imul, Instr.load}
+use Rattle.agreement.specs.X86.Form.{Instr.mov, Instr.movImm64, Instr.movsxd, Instr.movzx, Instr.pop, Instr.push, Instr.ret}
+use Rattle.agreement.specs.X86.Form.{Instr.setccAl, Instr.shiftCl, Instr.shiftImm8, Instr.store, Ok, Shift}
+use Rattle.agreement.specs.X86.Form.{Shift.sar, Shift.shl, Shift.shr, Width, Width.r32, Width.r64}
 use Rattle.agreement.specs.X86.Memory.{at, bytesOf}
 use Rattle.agreement.proofs.Laws.Tests.{eqb-no, eqb-yes}
 

@@ -1,4 +1,4 @@
--- from bytes in memory to a step
+-- From bytes in memory to a step.
 use mathlib.Core.Bool.{Bool, cond, false, true}
 use mathlib.Core.List.{List, [], _++_, _∷_}
 use mathlib.Core.Option.{some}
@@ -9,7 +9,10 @@ use lib.Dec.{eqb}
 use lib.ListN.{length, length-append}
 use Rattle.agreement.specs.X86.Encode.{encode, modMem, rex}
 use Rattle.agreement.specs.X86.Execute.{accesses, exec}
-use Rattle.agreement.specs.X86.Form.{Instr, Instr.alu, Instr.aluImm32, Instr.aluImm8, Instr.callRax, Instr.cmov, Instr.imul, Instr.load, Instr.mov, Instr.movImm64, Instr.movsxd, Instr.movzx, Instr.pop, Instr.push, Instr.ret, Instr.setccAl, Instr.shiftCl, Instr.shiftImm8, Instr.store, Ok, Width, Width.r32, Width.r64}
+use Rattle.agreement.specs.X86.Form.{Instr}
+use Rattle.agreement.specs.X86.Form.{Instr.alu, Instr.aluImm32, Instr.aluImm8, Instr.callRax, Instr.cmov, Instr.imul, Instr.load}
+use Rattle.agreement.specs.X86.Form.{Instr.mov, Instr.movImm64, Instr.movsxd, Instr.movzx, Instr.pop, Instr.push, Instr.ret}
+use Rattle.agreement.specs.X86.Form.{Instr.setccAl, Instr.shiftCl, Instr.shiftImm8, Instr.store, Ok, Width, Width.r32, Width.r64}
 use Rattle.agreement.specs.X86.Memory.{Memory, at, bytesOf, up}
 use Rattle.agreement.specs.X86.State.{Flags, Permissions, State}
 use Rattle.agreement.specs.X86.Step.{Fetch, all, cut, did, fetched, next, past, step}

@@ -9,7 +9,8 @@ use lib.Pow.{low}
 use Rattle.agreement.specs.Riscv.Run.{GuestState, manual, turn}
 use Rattle.agreement.specs.Translation.Replies.{Block, Refusal, Reply.block, Reply.refusal}
 use Rattle.agreement.specs.Statement.Agreement.{Agreement, Along, At, feed, feedOf, feeds, isRefused, leftBy, start}
-use Rattle.agreement.specs.Statement.Machine.{Event, Event.rejected, Event.visited, History, History.end, History.then, RegisterBytes, Turn, Turned, Turned.skip, Turned.visit, bytesAfter, reply, since}
+use Rattle.agreement.specs.Statement.Machine.{Event, Event.rejected, Event.visited, History, History.end, History.then}
+use Rattle.agreement.specs.Statement.Machine.{RegisterBytes, Turn, Turned, Turned.skip, Turned.visit, bytesAfter, reply, since}
 use Rattle.agreement.specs.Statement.Premises.{Enterable, Premises, Typed}
 use Rattle.agreement.specs.X86.Decode.{only}
 use Rattle.agreement.specs.X86.Form.{RAX}
@@ -81,7 +82,8 @@ one-more t ts m m2 rb rb2 e h a z c r =
 skipped : (t : Turn) (ts : List Turn) (m : GuestState) (rb : RegisterBytes) (r : Refusal)
     → reply t (m .pc) ≡ refusal r → isRefused t m ≡ true → m .registers 0 ≡ 0 → Result m rb ts → Result m rb (t ∷ ts)
 skipped t ts m rb r e f x0 k =
-    one-more t ts m m rb rb (rejected (m .pc) r) (skip e) (unfold At in record { refuses = f; at-pc = refl; x0 = x0 }) same (λ es. unfold since in refl) k
+    one-more t ts m m rb rb (rejected (m .pc) r) (skip e) (unfold At in record { refuses = f; at-pc = refl; x0 = x0 }) same
+    (λ es. unfold since in refl) k
   where
     same : turn (feed t (rejected (m .pc) r)) m ≡ m
     same = unfold feed feedOf leftBy in turn-refused (feedOf t none) m (unfold feedOf in f)

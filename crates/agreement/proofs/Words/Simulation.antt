@@ -6,11 +6,17 @@ use Prim.Native.Nat.{_+_, _<_, _^_, _≤_, suc, zero, ℕ}
 use native.Mathlib.Omega.{arith}
 use Rattle.agreement.specs.Common.{Helper, Helper.forAccess, Helper.forHalfword}
 use Rattle.agreement.specs.Riscv.Fields.{opcode, plus, rd, rs1, rs2, shamt5, shamt6}
-use Rattle.agreement.specs.Riscv.Instruction.{Instruction, Instruction.AUIPC, Instruction.FENCE, Instruction.FENCE·I, Instruction.JAL, Instruction.JALR, Instruction.LUI, Instruction.access, Instruction.branch, Instruction.op, Instruction.opImm, Instruction.other, Instruction.unmodelled, valueOp, valueOpImm}
-use Rattle.agreement.specs.Riscv.Run.{Read, Registers, Stop, Stop.called, Stop.plain, does, halt, help, isLong, jump, oneMore, reading, taken, wordOf, writeX}
+use Rattle.agreement.specs.Riscv.Instruction.{Instruction}
+use Rattle.agreement.specs.Riscv.Instruction.{Instruction.AUIPC, Instruction.FENCE, Instruction.FENCE·I, Instruction.JAL}
+use Rattle.agreement.specs.Riscv.Instruction.{Instruction.JALR, Instruction.LUI, Instruction.access, Instruction.branch}
+use Rattle.agreement.specs.Riscv.Instruction.{Instruction.op, Instruction.opImm, Instruction.other, Instruction.unmodelled}
+use Rattle.agreement.specs.Riscv.Instruction.{valueOp, valueOpImm}
+use Rattle.agreement.specs.Riscv.Run.{Read, Registers, Stop, Stop.called, Stop.plain}
+use Rattle.agreement.specs.Riscv.Run.{does, halt, help, isLong, jump, oneMore, reading, taken, wordOf, writeX}
 use Rattle.agreement.specs.Translation.Emit.{codeBranch, codeConst, codeJal, codeJalr, codeOp, codeOpImm, compare, leftover, loadReg}
 use Rattle.agreement.specs.Translation.Kind.{kind}
-use Rattle.agreement.specs.Translation.Walk.{End, End.calls, End.goesOn, End.jumped, Walked, before, emit, helps, jumps, notTakenAt, stopsAt, walk}
+use Rattle.agreement.specs.Translation.Walk.{End, End.calls, End.goesOn, End.jumped}
+use Rattle.agreement.specs.Translation.Walk.{Walked, before, emit, helps, jumps, notTakenAt, stopsAt, walk}
 use Rattle.agreement.specs.Statement.Machine.{History.end}
 use Rattle.agreement.specs.Statement.Premises.{Halfwords}
 use Rattle.agreement.specs.X86.Execute.{exec}
@@ -24,7 +30,8 @@ use Rattle.agreement.proofs.Laws.Fields.{long-is, opcode-is, rd-is, rs1
 use Rattle.agreement.proofs.Laws.Immediates.{imm32-is, imm32-lt, immB-is, immI-lt, immJ-is, immU-is, immU-lt}
 use Rattle.agreement.proofs.Laws.Leftover.{leftover-by}
 use Rattle.agreement.proofs.Laws.Naming.{kind-is}
-use Rattle.agreement.proofs.Words.Fit.{Fit, fit-append, fit-branch, fit-compare, fit-const, fit-imm, fit-jal, fit-jalr, fit-load, fit-loads, fit-nil, fit-op}
+use Rattle.agreement.proofs.Words.Fit.{Fit, fit-append, fit-branch, fit-compare, fit-const, fit-imm, fit-jal, fit-jalr, fit-load}
+use Rattle.agreement.proofs.Words.Fit.{fit-loads, fit-nil, fit-op}
 use Rattle.agreement.proofs.Words.Jumps.{Jumped, branch-jumps, const-slots, jal-jumps, jalr-jumps}
 use Rattle.agreement.proofs.Words.Op.{op-slots}
 use Rattle.agreement.proofs.Words.OpImm.{opImm-slots}

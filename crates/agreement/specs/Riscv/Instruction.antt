@@ -201,7 +201,8 @@ accessRows =
     ∷ row (access SB) 0x23 (funct3Is 0) anyTop ∷ row (access SH) 0x23 (funct3Is 1) anyTop ∷ row (access SW) 0x23 (funct3Is 2) anyTop
     ∷ row (access SD) 0x23 (funct3Is 3) anyTop ∷ []
 
--- FENCE.TSO and, later, PAUSE are words of FENCE's row; the fences' other fields are free ("shall ignore these fields")
+-- FENCE.TSO and, later, PAUSE are words of FENCE's row. The fences' other fields are free: rs1 and rd, and the immediate of
+-- FENCE.I, "base implementations shall ignore"; reserved settings of fm, pred and succ are "normal fences"
 abbrev pub singleRows : List Row
 singleRows =
     row LUI 0x37 anyThree anyTop ∷ row AUIPC 0x17 anyThree anyTop ∷ row JAL 0x6F anyThree anyTop

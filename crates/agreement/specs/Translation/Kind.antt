@@ -4,7 +4,16 @@ use mathlib.Core.Bool.{cond}
 use mathlib.Core.List.{List, [], _∷_}
 use Prim.Native.Nat.{ℕ}
 use lib.Dec.{eqb}
-use Rattle.agreement.specs.Riscv.Instruction.{Op.ADD, Op.SUB, Op.SLT, Op.SLTU, Op.XOR, Op.OR, Op.AND, Op.SLL, Op.SRL, Op.SRA, Op.MUL, Op.ADDW, Op.SUBW, Op.SLLW, Op.SRLW, Op.SRAW, Op.MULW, OpImm.ADDI, OpImm.SLTI, OpImm.SLTIU, OpImm.XORI, OpImm.ORI, OpImm.ANDI, OpImm.SLLI, OpImm.SRLI, OpImm.SRAI, OpImm.ADDIW, OpImm.SLLIW, OpImm.SRLIW, OpImm.SRAIW, Branch.BEQ, Branch.BNE, Branch.BLT, Branch.BGE, Branch.BLTU, Branch.BGEU, Access.LB, Access.LH, Access.LW, Access.LD, Access.LBU, Access.LHU, Access.LWU, Access.SB, Access.SH, Access.SW, Access.SD, Instruction, Instruction.op, Instruction.opImm, Instruction.branch, Instruction.access, Instruction.unmodelled, Instruction.LUI, Instruction.AUIPC, Instruction.JAL, Instruction.JALR, Instruction.FENCE, Instruction.FENCE·I, Instruction.other}
+use Rattle.agreement.specs.Riscv.Instruction.{Op.ADD, Op.SUB, Op.SLT, Op.SLTU, Op.XOR, Op.OR, Op.AND, Op.SLL, Op.SRL, Op.SRA, Op.MUL}
+use Rattle.agreement.specs.Riscv.Instruction.{Op.ADDW, Op.SUBW, Op.SLLW, Op.SRLW, Op.SRAW, Op.MULW}
+use Rattle.agreement.specs.Riscv.Instruction.{OpImm.ADDI, OpImm.SLTI, OpImm.SLTIU, OpImm.XORI, OpImm.ORI, OpImm.ANDI, OpImm.SLLI}
+use Rattle.agreement.specs.Riscv.Instruction.{OpImm.SRLI, OpImm.SRAI, OpImm.ADDIW, OpImm.SLLIW, OpImm.SRLIW, OpImm.SRAIW}
+use Rattle.agreement.specs.Riscv.Instruction.{Branch.BEQ, Branch.BNE, Branch.BLT, Branch.BGE, Branch.BLTU, Branch.BGEU}
+use Rattle.agreement.specs.Riscv.Instruction.{Access.LB, Access.LH, Access.LW, Access.LD, Access.LBU, Access.LHU, Access.LWU}
+use Rattle.agreement.specs.Riscv.Instruction.{Access.SB, Access.SH, Access.SW, Access.SD, Instruction}
+use Rattle.agreement.specs.Riscv.Instruction.{Instruction.op, Instruction.opImm, Instruction.branch, Instruction.access}
+use Rattle.agreement.specs.Riscv.Instruction.{Instruction.unmodelled, Instruction.LUI, Instruction.AUIPC, Instruction.JAL}
+use Rattle.agreement.specs.Riscv.Instruction.{Instruction.JALR, Instruction.FENCE, Instruction.FENCE·I, Instruction.other}
 use Rattle.agreement.specs.Translation.Decode32.{opcode, funct3, funct7, immHi}
 
 -- an arm `pattern => value` of a match on a number
@@ -24,41 +33,75 @@ match n (a ∷ arms) = cond (eqb n (a .pattern)) (a .value) (match n arms)
 -- OPCODE_OP: the Rust matches on the pair of funct7 and funct3; here funct3 = f, then funct7 = s
 unfoldable pub kindOp : ℕ → ℕ → Instruction
 kindOp f s = match f (
-    0 ⇒ match s (0x00 ⇒ op ADD ∷ 0x20 ⇒ op SUB ∷ 0x01 ⇒ op MUL ∷ []) ∷ 1 ⇒ match s (0x00 ⇒ op SLL ∷ [])
-    ∷ 2 ⇒ match s (0x00 ⇒ op SLT ∷ []) ∷ 3 ⇒ match s (0x00 ⇒ op SLTU ∷ []) ∷ 4 ⇒ match s (0x00 ⇒ op XOR ∷ [])
-    ∷ 5 ⇒ match s (0x00 ⇒ op SRL ∷ 0x20 ⇒ op SRA ∷ []) ∷ 6 ⇒ match s (0x00 ⇒ op OR ∷ [])
-    ∷ 7 ⇒ match s (0x00 ⇒ op AND ∷ []) ∷ [])
+    0 ⇒ match s (0x00 ⇒ op ADD ∷ 0x20 ⇒ op SUB ∷ 0x01 ⇒ op MUL ∷ [])
+    ∷ 1 ⇒ match s (0x00 ⇒ op SLL ∷ [])
+    ∷ 2 ⇒ match s (0x00 ⇒ op SLT ∷ [])
+    ∷ 3 ⇒ match s (0x00 ⇒ op SLTU ∷ [])
+    ∷ 4 ⇒ match s (0x00 ⇒ op XOR ∷ [])
+    ∷ 5 ⇒ match s (0x00 ⇒ op SRL ∷ 0x20 ⇒ op SRA ∷ [])
+    ∷ 6 ⇒ match s (0x00 ⇒ op OR ∷ [])
+    ∷ 7 ⇒ match s (0x00 ⇒ op AND ∷ [])
+    ∷ [])
 
 -- OPCODE_OP_32
 unfoldable pub kindOp32 : ℕ → ℕ → Instruction
 kindOp32 f s = match f (
-    0 ⇒ match s (0x00 ⇒ op ADDW ∷ 0x20 ⇒ op SUBW ∷ 0x01 ⇒ op MULW ∷ []) ∷ 1 ⇒ match s (0x00 ⇒ op SLLW ∷ [])
-    ∷ 5 ⇒ match s (0x00 ⇒ op SRLW ∷ 0x20 ⇒ op SRAW ∷ []) ∷ [])
+    0 ⇒ match s (0x00 ⇒ op ADDW ∷ 0x20 ⇒ op SUBW ∷ 0x01 ⇒ op MULW ∷ [])
+    ∷ 1 ⇒ match s (0x00 ⇒ op SLLW ∷ [])
+    ∷ 5 ⇒ match s (0x00 ⇒ op SRLW ∷ 0x20 ⇒ op SRAW ∷ [])
+    ∷ [])
 
 -- OPCODE_OP_IMM, the shifts by imm_hi = t
 unfoldable pub kindOpImm : ℕ → ℕ → Instruction
 kindOpImm f t = match f (
-    0 ⇒ opImm ADDI ∷ 2 ⇒ opImm SLTI ∷ 3 ⇒ opImm SLTIU ∷ 4 ⇒ opImm XORI ∷ 6 ⇒ opImm ORI ∷ 7 ⇒ opImm ANDI
-    ∷ 1 ⇒ match t (0x00 ⇒ opImm SLLI ∷ []) ∷ 5 ⇒ match t (0x00 ⇒ opImm SRLI ∷ 0x10 ⇒ opImm SRAI ∷ []) ∷ [])
+    0 ⇒ opImm ADDI
+    ∷ 2 ⇒ opImm SLTI
+    ∷ 3 ⇒ opImm SLTIU
+    ∷ 4 ⇒ opImm XORI
+    ∷ 6 ⇒ opImm ORI
+    ∷ 7 ⇒ opImm ANDI
+    ∷ 1 ⇒ match t (0x00 ⇒ opImm SLLI ∷ [])
+    ∷ 5 ⇒ match t (0x00 ⇒ opImm SRLI ∷ 0x10 ⇒ opImm SRAI ∷ [])
+    ∷ [])
 
 -- OPCODE_OP_IMM_32
 unfoldable pub kindOpImm32 : ℕ → ℕ → Instruction
 kindOpImm32 f s = match f (
-    0 ⇒ opImm ADDIW ∷ 1 ⇒ match s (0x00 ⇒ opImm SLLIW ∷ [])
-    ∷ 5 ⇒ match s (0x00 ⇒ opImm SRLIW ∷ 0x20 ⇒ opImm SRAIW ∷ []) ∷ [])
+    0 ⇒ opImm ADDIW
+    ∷ 1 ⇒ match s (0x00 ⇒ opImm SLLIW ∷ [])
+    ∷ 5 ⇒ match s (0x00 ⇒ opImm SRLIW ∷ 0x20 ⇒ opImm SRAIW ∷ [])
+    ∷ [])
 
 -- OPCODE_BRANCH
 unfoldable pub kindBranch : ℕ → Instruction
 kindBranch f = match f (
-    0 ⇒ branch BEQ ∷ 1 ⇒ branch BNE ∷ 4 ⇒ branch BLT ∷ 5 ⇒ branch BGE ∷ 6 ⇒ branch BLTU ∷ 7 ⇒ branch BGEU ∷ [])
+    0 ⇒ branch BEQ
+    ∷ 1 ⇒ branch BNE
+    ∷ 4 ⇒ branch BLT
+    ∷ 5 ⇒ branch BGE
+    ∷ 6 ⇒ branch BLTU
+    ∷ 7 ⇒ branch BGEU
+    ∷ [])
 
 -- OPCODE_LOAD and OPCODE_STORE, which go to the helper
 unfoldable pub kindLoad : ℕ → Instruction
 kindLoad f = match f (
-    0 ⇒ access LB ∷ 1 ⇒ access LH ∷ 2 ⇒ access LW ∷ 3 ⇒ access LD ∷ 4 ⇒ access LBU ∷ 5 ⇒ access LHU ∷ 6 ⇒ access LWU ∷ [])
+    0 ⇒ access LB
+    ∷ 1 ⇒ access LH
+    ∷ 2 ⇒ access LW
+    ∷ 3 ⇒ access LD
+    ∷ 4 ⇒ access LBU
+    ∷ 5 ⇒ access LHU
+    ∷ 6 ⇒ access LWU
+    ∷ [])
 
 unfoldable pub kindStore : ℕ → Instruction
-kindStore f = match f (0 ⇒ access SB ∷ 1 ⇒ access SH ∷ 2 ⇒ access SW ∷ 3 ⇒ access SD ∷ [])
+kindStore f = match f (
+    0 ⇒ access SB
+    ∷ 1 ⇒ access SH
+    ∷ 2 ⇒ access SW
+    ∷ 3 ⇒ access SD
+    ∷ [])
 
 -- OPCODE_MISC_MEM
 unfoldable pub kindFence : ℕ → Instruction
@@ -67,9 +110,19 @@ kindFence f = match f (0 ⇒ FENCE ∷ 1 ⇒ FENCE·I ∷ [])
 -- opcode, funct3, funct7, imm_hi; JALR is taken with any funct3
 unfoldable pub kindOf : ℕ → ℕ → ℕ → ℕ → Instruction
 kindOf o f s t = match o (
-    0x37 ⇒ LUI ∷ 0x17 ⇒ AUIPC ∷ 0x6F ⇒ JAL ∷ 0x67 ⇒ JALR ∷ 0x63 ⇒ kindBranch f ∷ 0x13 ⇒ kindOpImm f t
-    ∷ 0x1B ⇒ kindOpImm32 f s ∷ 0x33 ⇒ kindOp f s ∷ 0x3B ⇒ kindOp32 f s ∷ 0x0F ⇒ kindFence f ∷ 0x03 ⇒ kindLoad f
-    ∷ 0x23 ⇒ kindStore f ∷ [])
+    0x37 ⇒ LUI
+    ∷ 0x17 ⇒ AUIPC
+    ∷ 0x6F ⇒ JAL
+    ∷ 0x67 ⇒ JALR
+    ∷ 0x63 ⇒ kindBranch f
+    ∷ 0x13 ⇒ kindOpImm f t
+    ∷ 0x1B ⇒ kindOpImm32 f s
+    ∷ 0x33 ⇒ kindOp f s
+    ∷ 0x3B ⇒ kindOp32 f s
+    ∷ 0x0F ⇒ kindFence f
+    ∷ 0x03 ⇒ kindLoad f
+    ∷ 0x23 ⇒ kindStore f
+    ∷ [])
 
 unfoldable pub kind : ℕ → Instruction
 kind w = kindOf (opcode w) (funct3 w) (funct7 w) (immHi w)

@@ -5,11 +5,15 @@ use Prim.Native.Nat.{ℕ, zero, suc}
 use lib.Bits.{bitAnd}
 use lib.Dec.{eqb}
 use Rattle.agreement.specs.Common.{Helper, Helper.forHalfword, Helper.forAccess}
-use Rattle.agreement.specs.Riscv.Instruction.{Instruction, Instruction.op, Instruction.opImm, Instruction.branch, Instruction.access, Instruction.unmodelled, Instruction.LUI, Instruction.AUIPC, Instruction.JAL, Instruction.JALR, Instruction.FENCE, Instruction.FENCE·I, Instruction.other}
+use Rattle.agreement.specs.Riscv.Instruction.{Instruction}
+use Rattle.agreement.specs.Riscv.Instruction.{Instruction.op, Instruction.opImm, Instruction.branch, Instruction.access}
+use Rattle.agreement.specs.Riscv.Instruction.{Instruction.unmodelled, Instruction.LUI, Instruction.AUIPC, Instruction.JAL}
+use Rattle.agreement.specs.Riscv.Instruction.{Instruction.JALR, Instruction.FENCE, Instruction.FENCE·I, Instruction.other}
 use Rattle.agreement.specs.X86.Form.{RAX, RDX, Instr, Instr.movImm64, Instr.callRax, Instr.ret}
 use Rattle.agreement.specs.Translation.Decode32.{wordOf, opcode, rd, rs1, rs2, imm32, shamt, shamtW, immB, immU, immJ, wrappingAdd}
 use Rattle.agreement.specs.Translation.Kind.{kind}
-use Rattle.agreement.specs.Translation.Emit.{codeOp, codeOpImm, codeConst, codeJal, codeJalr, codeBranch, leftover, opening, closing, passes, addCount}
+use Rattle.agreement.specs.Translation.Emit.{codeOp, codeOpImm, codeConst, codeJal, codeJalr, codeBranch, leftover, opening, closing}
+use Rattle.agreement.specs.Translation.Emit.{passes, addCount}
 
 -- how a block ends: it goes on at a pc, an ending word has set RAX, or a helper is called with an instruction and its pc
 pub data End : Type 0 where

@@ -3,7 +3,11 @@ use mathlib.Core.Bool.{cond}
 use mathlib.Core.List.{List, []}
 use Prim.Native.Nat.{ℕ, _+_, _-_, _*_, _/_, _%_, _^_}
 use Rattle.agreement.specs.X86.Memory.{at, read, write, span}
-use Rattle.agreement.specs.X86.Form.{RAX, RCX, RSP, Width, Width.r32, Width.r64, Alu, Alu.add, Alu.or, Alu.and, Alu.sub, Alu.xor, Alu.cmp, Shift, Instr, Instr.push, Instr.pop, Instr.mov, Instr.movImm64, Instr.load, Instr.store, Instr.alu, Instr.aluImm32, Instr.aluImm8, Instr.shiftCl, Instr.shiftImm8, Instr.imul, Instr.movsxd, Instr.setccAl, Instr.movzx, Instr.cmov, Instr.callRax, Instr.ret}
+use Rattle.agreement.specs.X86.Form.{RAX, RCX, RSP, Width, Width.r32, Width.r64, Alu}
+use Rattle.agreement.specs.X86.Form.{Alu.add, Alu.or, Alu.and, Alu.sub, Alu.xor, Alu.cmp, Shift, Instr}
+use Rattle.agreement.specs.X86.Form.{Instr.push, Instr.pop, Instr.mov, Instr.movImm64, Instr.load, Instr.store, Instr.alu}
+use Rattle.agreement.specs.X86.Form.{Instr.aluImm32, Instr.aluImm8, Instr.shiftCl, Instr.shiftImm8, Instr.imul, Instr.movsxd}
+use Rattle.agreement.specs.X86.Form.{Instr.setccAl, Instr.movzx, Instr.cmov, Instr.callRax, Instr.ret}
 use Rattle.agreement.specs.X86.State.{Flags, State, set}
 use Rattle.agreement.specs.X86.Flags.{sext, aluValue, aluFlags, holds, shifted, shiftFlags, imulFlags, bitOf}
 

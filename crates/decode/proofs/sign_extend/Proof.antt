@@ -1,4 +1,4 @@
--- What stands in Width, at the width and the value given.
+-- What stands in SignExtendSum, at the width and the value given.
 use borrow.Author.Needs.{needs}
 use native.Mathlib.Omega.{arith}
 use lib.Pow.{pow-pos}
