@@ -10,13 +10,16 @@ use Rattle.words.proofs.emit_native_instr_x64.Tie as tie
 
 emit-by-opcode-requires : tie.Need-emit-by-opcode-requires
 emit-by-opcode-requires c κs =
-    (rw (c .before .decode32 .ensures) (small (c .before .before .before .args .instr)), c .before .before .before .pre)
+    let start : tie.Start = search in
+    let decoded : tie.After-decode32 = search in
+    (rw (decoded .decode32 .ensures) (small (start .args .instr)), start .pre)
 
 returns : tie.Need-returns
 returns c =
-    let emitted = c .before .before in
-    let decoded = emitted .before .before in
-    let a = decoded .before .before .args in
+    let emitted : tie.After-emit-by-opcode = search in
+    let decoded : tie.After-decode32 = search in
+    let start : tie.Start = search in
+    let a = start .args in
     alike
     (ap (λ (d : Decoded32). wordBy (a .pc) (a .instr) d) (decoded .decode32 .ensures) ∙ word-is (a .pc) (a .instr) (search needs))
     (emitted .emit-by-opcode .ensures)

@@ -5,12 +5,12 @@ use Rattle.words.proofs.frame.x64_emit_keeps.Tie as tie
 
 returns : tie.Need-returns
 returns c =
-    let sixth = c .before .before in
-    let fifth = sixth .before .before .before .before in
-    let fourth = fifth .before .before .before .before in
-    let third = fourth .before .before .before .before in
-    let second = third .before .before .before .before in
-    let first = second .before .before .before .before in
+    let sixth : tie.After-mov-r64-r646 = search in
+    let fifth : tie.After-mov-r64-r645 = search in
+    let fourth : tie.After-mov-r64-r644 = search in
+    let third : tie.After-mov-r64-r643 = search in
+    let second : tie.After-mov-r64-r642 = search in
+    let first : tie.After-mov-r64-r64 = search in
     first .mov-r64-r64 .ensures then second .mov-r64-r642 .ensures then third .mov-r64-r643 .ensures
     then fourth .mov-r64-r644 .ensures then fifth .mov-r64-r645 .ensures then sixth .mov-r64-r646 .ensures
 

@@ -5,12 +5,12 @@ use Rattle.words.proofs.frame.x64_emit_pushes.Tie as tie
 
 returns : tie.Need-returns
 returns c =
-    let sixth = c .before .before in
-    let fifth = sixth .before .before .before .before in
-    let fourth = fifth .before .before .before .before in
-    let third = fourth .before .before .before .before in
-    let second = third .before .before .before .before in
-    let first = second .before .before .before .before in
+    let sixth : tie.After-push-r646 = search in
+    let fifth : tie.After-push-r645 = search in
+    let fourth : tie.After-push-r644 = search in
+    let third : tie.After-push-r643 = search in
+    let second : tie.After-push-r642 = search in
+    let first : tie.After-push-r64 = search in
     first .push-r64 .ensures then second .push-r642 .ensures then third .push-r643 .ensures
     then fourth .push-r644 .ensures then fifth .push-r645 .ensures then sixth .push-r646 .ensures
 

@@ -8,10 +8,11 @@ use Rattle.words.proofs.helper.emit_native_term_helper_x64.Tie as tie
 
 returns : tie.Need-returns
 returns c =
-    let closes = c .before .before in
-    let counts = closes .before .before .before .before in
-    let calls = counts .before .before .before .before in
-    let a = calls .before .before .before .args in
+    let closes : tie.After-x64-emit-epilogue = search in
+    let counts : tie.After-add-count = search in
+    let calls : tie.After-helper-call = search in
+    let start : tie.Start = search in
+    let a = start .args in
     joined (passes (a .instr) (a .pc) (a .helper) ++ callRax ∷ []) (addCount (a .prefix-count) ++ (closing ++ ret ∷ []))
     (calls .helper-call .ensures)
     (joined (addCount (a .prefix-count)) (closing ++ ret ∷ []) (counts .add-count .ensures .0) (closes .x64-emit-epilogue .ensures))

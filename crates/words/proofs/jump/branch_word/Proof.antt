@@ -6,9 +6,10 @@ use Rattle.words.proofs.jump.branch_word.Tie as tie
 
 returns : tie.Need-returns
 returns c =
-    let selects = c .before .before in
-    let compares = selects .before .before .before .before in
-    let d = compares .before .before .before .args .d in
+    let selects : tie.After-branch-on-flags = search in
+    let compares : tie.After-branch-compare = search in
+    let start : tie.Start = search in
+    let d = start .args .d in
     preceded (compare (d .rs1) (d .rs2)) (compares .branch-compare .ensures) (selects .branch-on-flags .ensures)
 
 pub branch-word-spec : {M : Type 1} → statement M

@@ -10,14 +10,16 @@ use Rattle.words.proofs.jump.jal.Tie as tie
 
 mov-r64-imm64-requires : tie.Need-mov-r64-imm64-requires
 mov-r64-imm64-requires c κs =
-    let a = c .before .before .before .before .before .before .args in
+    let start : tie.Start = search in
+    let a = start .args in
     (omega arith, record { fits = omega (arith, len-const (a .rd) (a .link)) })
 
 returns : tie.Need-returns
 returns c =
-    let ends = c .before .before in
-    let links = ends .before .before .before .before in
-    let a = links .before .before .before .args in
+    let ends : tie.After-mov-r64-imm64 = search in
+    let links : tie.After-x64-emit-const = search in
+    let start : tie.Start = search in
+    let a = start .args in
     joined (codeConst (a .rd) (a .link)) (movImm64 RAX (a .target) ∷ [])
     (links .x64-emit-const .ensures) (ends .mov-r64-imm64 .ensures)
 

@@ -8,10 +8,11 @@ use Rattle.words.proofs.jump.jalr.Tie as tie
 
 returns : tie.Need-returns
 returns c =
-    let ends = c .before .before in
-    let links = ends .before .before .before .before in
-    let aims = links .before .before .before .before in
-    let a = aims .before .before .before .args in
+    let ends : tie.After-mov-r64-r64 = search in
+    let links : tie.After-jalr-link = search in
+    let aims : tie.After-jalr-target = search in
+    let start : tie.Start = search in
+    let a = start .args in
     joined (jalrTarget (a .rs1) (a .imm)) (jalrLink (a .rd) (a .link) ++ mov RAX R10 ∷ [])
     (aims .jalr-target .ensures)
     (joined (jalrLink (a .rd) (a .link)) (mov RAX R10 ∷ []) (links .jalr-link .ensures .0) (ends .mov-r64-r64 .ensures))

@@ -6,11 +6,13 @@ use Rattle.words.proofs.jump.jalr_link.Statement.{statement}
 use Rattle.words.proofs.jump.jalr_link.Tie as tie
 
 returns : tie.Need-returns
-returns c = (at-zero (c .before .before .args .rd) _ (omega arith), search needs)
+returns c =
+    let start : tie.Start = search in
+    (at-zero (start .args .rd) _ (omega arith), search needs)
 
 returns-2 : tie.Need-returns-2
 returns-2 c =
-    let start = c .before .before .before .before .before .before .before .before .before .before in
+    let start : tie.Start = search in
     (at-other (start .args .rd) _ (omega arith) (search writes), search needs)
 
 pub jalr-link-spec : {M : Type 1} → statement M

@@ -27,13 +27,9 @@ op-32-base-spec =
     (λ c κs. search needs)
     (λ c κs. search needs)
     (λ c. search needs)
-    (λ c. rw (c .before .before .before .before .before .before .before .before .match .keys1) (search (words, needs)))
+    (λ c. let arm : tie.At-match-keys1 = search in rw (arm .match .keys1) (search (words, needs)))
     (λ c. search needs)
-    (λ c.
-    rw (c .before .before .before .before .before .before .before .before .before .before .before .before .match .keys2)
-    (search (words, needs)))
+    (λ c. let arm : tie.At-match-keys2 = search in rw (arm .match .keys2) (search (words, needs)))
     (λ c. search needs)
-    (λ c.
-    rw (c .before .before .before .before .before .before .before .before .before .before .before .before .match .keys3)
-    (search (words, needs)))
+    (λ c. let arm : tie.At-match-keys3 = search in rw (arm .match .keys3) (search (words, needs)))
     none)

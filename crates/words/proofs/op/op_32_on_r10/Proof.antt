@@ -16,11 +16,11 @@ op-32-on-r10-spec =
     (λ c κs. search needs)
     (λ c κs. search needs)
     (λ c. search needs)
-    (λ c. rw (c .before .before .before .before .match .keys1) (search (words, needs)))
+    (λ c. let arm : tie.At-match-keys1 = search in rw (arm .match .keys1) (search (words, needs)))
     (λ c. search needs)
-    (λ c. rw (c .before .before .before .before .match .keys2) (search (words, needs)))
+    (λ c. let arm : tie.At-match-keys2 = search in rw (arm .match .keys2) (search (words, needs)))
     (λ c. search needs)
-    (λ c. rw (c .before .before .before .before .match .keys3) (search (words, needs)))
+    (λ c. let arm : tie.At-match-keys3 = search in rw (arm .match .keys3) (search (words, needs)))
     (λ c.
     let r = c .before .match .rest in
     simp (ne-eqb _ _ (r .1), ne-eqb _ _ (r .0 .1), ne-eqb _ _ (r .0 .0 .1), cond-same) (search (words, needs))))

@@ -8,9 +8,9 @@ use Rattle.words.proofs.op.op_32_word.Tie as tie
 
 store-rd-requires : tie.Need-store-rd-requires
 store-rd-requires c κs =
-    let body = c .before .before .before in
-    let loads = body .before .before .before .before in
-    let start = loads .before .before .before in
+    let body : tie.After-op-32-on-r10 = search in
+    let loads : tie.After-x64-emit-load-pair = search in
+    let start : tie.Start = search in
     let d = start .args .d in (
       start .pre .0 .rd-small,
       op-room (kindOp32 (d .funct3) (d .funct7))
@@ -19,10 +19,11 @@ store-rd-requires c κs =
 
 returns : tie.Need-returns
 returns c =
-    let stored = c .before .before in
-    let body = stored .before .before .before .before in
-    let loads = body .before .before .before .before in
-    let d = loads .before .before .before .args .d in
+    let stored : tie.After-store-rd = search in
+    let body : tie.After-op-32-on-r10 = search in
+    let loads : tie.After-x64-emit-load-pair = search in
+    let start : tie.Start = search in
+    let d = start .args .d in
     finish (loadPair (d .rs1) (d .rs2)) (d .rd)
     (loads .x64-emit-load-pair .ensures) (body .op-32-on-r10 .ensures) (stored .store-rd .ensures)
 

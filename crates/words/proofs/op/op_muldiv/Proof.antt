@@ -15,5 +15,5 @@ op-muldiv-spec =
     (λ c κs. search needs)
     (λ c κs. search needs)
     (λ c. search needs)
-    (λ c. rw (c .before .before .before .before .before .match .keys1) (search (words, needs)))
+    (λ c. let arm : tie.At-match-keys1 = search in rw (arm .match .keys1) (search (words, needs)))
     (λ c. simp (ne-eqb _ _ (c .before .match .rest .1), cond-same) (search (words, needs))))

@@ -42,32 +42,34 @@ op-imm-on-r10-spec =
     (λ c κs. search needs)
     (λ c κs. search needs)
     (λ c. search needs)
-    (λ c. rw (c .before .before .before .before .before .match .keys1) (search (words, needs)))
+    (λ c. let arm : tie.At-match-keys1 = search in rw (arm .match .keys1) (search (words, needs)))
     (λ c. search needs)
-    (λ c. rw (c .before .before .before .before .before .before .before .before .match .keys2) (search (words, needs)))
+    (λ c. let arm : tie.At-match-keys2 = search in rw (arm .match .keys2) (search (words, needs)))
     (λ c. search needs)
-    (λ c. rw (c .before .before .before .before .before .before .before .before .match .keys3) (search (words, needs)))
+    (λ c. let arm : tie.At-match-keys3 = search in rw (arm .match .keys3) (search (words, needs)))
     (λ c. search needs)
-    (λ c. rw (c .before .before .before .before .before .match .keys4) (search (words, needs)))
+    (λ c. let arm : tie.At-match-keys4 = search in rw (arm .match .keys4) (search (words, needs)))
     (λ c. search needs)
-    (λ c. rw (c .before .before .before .before .before .match .keys5) (search (words, needs)))
+    (λ c. let arm : tie.At-match-keys5 = search in rw (arm .match .keys5) (search (words, needs)))
     (λ c. search needs)
-    (λ c. rw (c .before .before .before .before .before .match .keys6) (search (words, needs)))
+    (λ c. let arm : tie.At-match-keys6 = search in rw (arm .match .keys6) (search (words, needs)))
     (λ c. search needs)
     (λ c.
-    let arm = c .before .before .before .before .before in
+    let arm : tie.At-match2-keys1 = search in
     rw (arm .before .match .keys7, arm .match2 .keys1) (search (words, needs)))
-    (λ c. rw (c .before .before .match .keys7, ne-eqb _ _ (c .before .match2 .rest .1)) (search (words, needs)))
+    (λ c.
+    let arm : tie.At-match2-rest = search in
+    rw (arm .before .match .keys7, ne-eqb _ _ (arm .match2 .rest .1)) (search (words, needs)))
     (λ c. search needs)
     (λ c.
-    let arm = c .before .before .before .before .before in
+    let arm : tie.At-match3-keys1 = search in
     rw (arm .before .match .keys8, arm .match3 .keys1) (search (words, needs)))
     (λ c. search needs)
     (λ c.
-    let arm = c .before .before .before .before .before in
+    let arm : tie.At-match3-keys2 = search in
     rw (arm .before .match .keys8, arm .match3 .keys2) (search (words, needs)))
     (λ c.
-    let arm = c .before in
+    let arm : tie.At-match3-rest = search in
     let r = arm .match3 .rest in
     rw (arm .before .match .keys8, ne-eqb _ _ (r .0 .1), ne-eqb _ _ (r .1)) (search (words, needs)))
     none)

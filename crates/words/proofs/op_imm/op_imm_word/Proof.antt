@@ -11,9 +11,9 @@ use Rattle.words.proofs.op_imm.op_imm_word.Tie as tie
 
 store-rd-requires : tie.Need-store-rd-requires
 store-rd-requires c κs =
-    let body = c .before .before .before in
-    let loads = body .before .before .before .before in
-    let start = loads .before .before .before in
+    let body : tie.After-op-imm-on-r10 = search in
+    let loads : tie.After-x64-emit-load-reg = search in
+    let start : tie.Start = search in
     let d = start .args .d in (
       start .pre .0 .rd-small,
       imm-room (kindOpImm (d .funct3) (d .imm12 / 64)) (start .args .imm) (d .imm12 % 64) (d .imm12 % 32)
@@ -22,10 +22,11 @@ store-rd-requires c κs =
 
 returns : tie.Need-returns
 returns c =
-    let stored = c .before .before in
-    let body = stored .before .before .before .before in
-    let loads = body .before .before .before .before in
-    let d = loads .before .before .before .args .d in
+    let stored : tie.After-store-rd = search in
+    let body : tie.After-op-imm-on-r10 = search in
+    let loads : tie.After-x64-emit-load-reg = search in
+    let start : tie.Start = search in
+    let d = start .args .d in
     finish (loadReg R10 (d .rs1) ∷ []) (d .rd)
     (loads .x64-emit-load-reg .ensures) (body .op-imm-on-r10 .ensures) (stored .store-rd .ensures)
 

@@ -7,8 +7,9 @@ use Rattle.words.proofs.result.store_rd.Tie as tie
 
 goes-on : tie.Need-returns
 goes-on c =
-    let stores = c .before .before .before in
-    rw (stores .before .before .before .enum-told .given .1)
+    let stores : tie.After-x64-emit-store-reg = search in
+    let told : tie.After-enum-told = search in
+    rw (told .enum-told .given .1)
     (answered (c .goes-on .ensures) (stores .x64-emit-store-reg .ensures))
 
 pub store-rd-spec : {M : Type 1} → statement M

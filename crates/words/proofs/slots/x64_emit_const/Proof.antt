@@ -6,11 +6,14 @@ use Rattle.words.proofs.slots.x64_emit_const.Statement.{statement}
 use Rattle.words.proofs.slots.x64_emit_const.Tie as tie
 
 returns : tie.Need-returns
-returns c = at-zero (c .before .before .args .rd) _ (omega arith)
+returns c =
+    let start : tie.Start = search in
+    at-zero (start .args .rd) _ (omega arith)
 
 returns-2 : tie.Need-returns-2
 returns-2 c =
-    at-other (c .before .before .before .before .before .before .before .before .before .before .args .rd) _ (omega arith) (search writes)
+    let start : tie.Start = search in
+    at-other (start .args .rd) _ (omega arith) (search writes)
 
 pub x64-emit-const-spec : {M : Type 1} → statement M
 x64-emit-const-spec =

@@ -5,12 +5,15 @@ use Rattle.words.proofs.slots.x64_emit_store_reg.Statement.{statement}
 use Rattle.words.proofs.slots.x64_emit_store_reg.Tie as tie
 
 returns : tie.Need-returns
-returns c = at-zero (c .before .before .args .reg) _ (omega arith)
+returns c =
+    let start : tie.Start = search in
+    at-zero (start .args .reg) _ (omega arith)
 
 returns-2 : tie.Need-returns-2
 returns-2 c =
-    let stores = c .before .before in
-    at-other (stores .before .before .before .before .args .reg) _ (omega arith) (stores .mov-m64-disp32-r64 .ensures)
+    let stores : tie.After-mov-m64-disp32-r64 = search in
+    let start : tie.Start = search in
+    at-other (start .args .reg) _ (omega arith) (stores .mov-m64-disp32-r64 .ensures)
 
 pub x64-emit-store-reg-spec : {M : Type 1} → statement M
 x64-emit-store-reg-spec =
