@@ -68,7 +68,7 @@ module _ {steps start : ℕ} {hs l₀ : List ℕ} {a₀ : ℕ} {l : List ℕ} {p
 
   -- a word is written
   module _ {a : ℕ} {m : List ℕ} {e : Emitted} (i : ℕ) (w : Walking steps start hs l₀ a₀ l a pc k n) (h : n < steps)
-      (f : Word i ≡ fetched (drop k hs)) (E : Emits l a (wordAs (kind i) pc i) m e) where
+      (E : Emits l a (wordAs (kind i) pc i) m e) (f : Word i ≡ fetched (drop k hs)) where
     left : steps - n ≡ 0 → ⊥
     left z = omega (arith, h, z)
 

@@ -5,9 +5,9 @@ use Rattle.block.proofs.compile_native_block.Tie as tie
 
 room : tie.Need-close-requires
 room c κs =
-    let walking = c .before .before .before .before in
-    let opening = walking .before .before .before .before in
-    let start = opening .before .before .before .before in
+    let start : tie.Start = search in
+    let opening : tie.After-x64-emit-prologue = search in
+    let walking : tie.After-emit-words = search in
     let w = walking .emit-words .ensures in (
       w .1,
       room-to-close (start .args .steps) (start .args .start) _ (start .pre .0) (start .pre .1)
@@ -16,9 +16,9 @@ room c κs =
 
 returns : tie.Need-returns
 returns c =
-    let closing = c .before .before in
-    let walking = closing .before .before .before .before .before in
-    let opening = walking .before .before .before .before in
+    let opening : tie.After-x64-emit-prologue = search in
+    let walking : tie.After-emit-words = search in
+    let closing : tie.After-close = search in
     compiled _ _ _ (opening .x64-emit-prologue .ensures) (walking .emit-words .ensures .0) (closing .close .ensures)
 
 pub compile-native-block-spec : {M : Type 1} → statement M

@@ -1,44 +1,42 @@
 use native.Mathlib.Omega.{arith}
 use borrow.Author.Needs.{needs}
-use Prim.Native.Nat.{_+_}
+use Prim.Native.Nat.{_+_, _<_}
+use lib.ListN.{getD}
 use Rattle.block.proofs.RunFront.{none-left, half-there, half-lacks, word-there}
 use Rattle.block.proofs.fetch.fetch.Statement.{statement}
 use Rattle.block.proofs.fetch.fetch.Tie as tie
+
+abbrev start : tie.After-shared-slice-known2 → tie.Start
+start c = search
+
+-- the halfwords of a word fit their type
+lower : (c : tie.After-shared-slice-known2) → getD (start c .args .halfwords .now) (start c .args .k) 0 < 65536
+lower c =
+    let reading : tie.After-shared-slice-known = search in
+    omega (arith, reading .shared-slice-known .given (start c .args .k))
+
+upper : (c : tie.After-shared-slice-known2) → getD (start c .args .halfwords .now) (start c .args .k + 1) 0 < 65536
+upper c = omega (arith, c .shared-slice-known2 .given (start c .args .k + 1))
 
 returns : tie.Need-returns
 returns c = none-left _ _ (c .if1 .taken)
 
 returns-2 : tie.Need-returns-2
-returns-2 c = half-there _ _ (c .before .before .if1 .left) (c .if2 .taken)
+returns-2 c =
+    let there : tie.Else1 = search in
+    half-there _ _ (there .if1 .left) (c .if2 .taken)
 
 returns-3 : tie.Need-returns-3
-returns-3 c = half-lacks _ _ (c .before .before .before .if1 .left) (c .before .if2 .left) (c .if3 .taken)
-
-cast-t11 : tie.Need-cast-t11
-cast-t11 c =
-    let k = c .before .before .before .before .before .args .k in
-    omega (arith, c .before .before .before .shared-slice-known .given k, c .shared-slice-known2 .given (k + 1))
-
-mul-t12 : tie.Need-mul-t12
-mul-t12 c =
-    let k = c .before .before .before .before .before .args .k in
-    omega (arith, c .before .before .before .shared-slice-known .given k, c .shared-slice-known2 .given (k + 1))
-
-cast-t13 : tie.Need-cast-t13
-cast-t13 c =
-    let k = c .before .before .before .before .before .args .k in
-    omega (arith, c .before .before .before .shared-slice-known .given k, c .shared-slice-known2 .given (k + 1))
-
-add-t14 : tie.Need-add-t14
-add-t14 c =
-    let k = c .before .before .before .before .before .args .k in
-    omega (arith, c .before .before .before .shared-slice-known .given k, c .shared-slice-known2 .given (k + 1))
+returns-3 c =
+    let there : tie.Else1 = search in
+    let long : tie.Else2 = search in
+    half-lacks _ _ (there .if1 .left) (long .if2 .left) (c .if3 .taken)
 
 returns-4 : tie.Need-returns-4
 returns-4 c =
-    let k = c .before .before .before .before .before .args .k in
-    word-there _ _ (c .before .if3 .left) (c .before .before .if2 .left)
-    (omega (arith, c .before .before .before .shared-slice-known .given k))
+    let long : tie.Else2 = search in
+    let both : tie.Else3 = search in
+    word-there _ _ (both .if3 .left) (long .if2 .left) (lower c)
 
 pub fetch-spec : {M : Type 1} → statement M
 fetch-spec =
@@ -53,8 +51,8 @@ fetch-spec =
     (λ c. search needs)
     (λ c. search needs)
     (λ c. search needs)
-    cast-t11
-    mul-t12
-    cast-t13
-    add-t14
+    (λ c. omega (arith, lower c, upper c))
+    (λ c. omega (arith, lower c, upper c))
+    (λ c. omega (arith, lower c, upper c))
+    (λ c. omega (arith, lower c, upper c))
     returns-4)

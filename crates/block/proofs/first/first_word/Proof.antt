@@ -5,17 +5,24 @@ use Rattle.block.proofs.first.first_word.Statement.{statement}
 use Rattle.block.proofs.first.first_word.Tie as tie
 
 returns : tie.Need-returns
-returns c = first-is _ (sym (c .before .fetched .given .1) ∙ c .before .before .before .fetch .ensures)
+returns c =
+    let fetching : tie.After-fetch = search in
+    let told : tie.After-fetched = search in
+    first-is _ (sym (told .fetched .given .1) ∙ fetching .fetch .ensures)
 
 returns-2 : tie.Need-returns-2
-returns-2 c = first-is _ (sym (c .enum-told .given .1) ∙ c .before .before .fetch .ensures)
+returns-2 c =
+    let fetching : tie.After-fetch = search in
+    first-is _ (sym (c .enum-told .given .1) ∙ fetching .fetch .ensures)
 
 returns-3 : tie.Need-returns-3
 returns-3 c =
-    let found = c .before .before .before in
+    let fetching : tie.After-fetch = search in
+    let told : tie.After-fetched2 = search in
+    let asking : tie.After-word-kind = search in
     c .by-kind .ensures
-    ∙ word-first (found .fetched2 .given .0 .0) (c .before .word-kind .ensures)
-    (first-is _ (sym (found .fetched2 .given .1) ∙ found .before .before .fetch .ensures))
+    ∙ word-first (told .fetched2 .given .0 .0) (asking .word-kind .ensures)
+    (first-is _ (sym (told .fetched2 .given .1) ∙ fetching .fetch .ensures))
 
 pub first-word-spec : {M : Type 1} → statement M
 first-word-spec =

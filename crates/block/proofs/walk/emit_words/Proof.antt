@@ -13,34 +13,42 @@ Inv-loop out₀ halfwords start steps at₀ pc₀ k₀ emitted₀ out at pc k em
 abbrev μ-loop : tie.MeasureT-loop
 μ-loop out₀ halfwords start steps at₀ pc₀ k₀ emitted₀ out at pc k emitted = steps - emitted
 
+-- the steps that several answers cite
+abbrev Looping : Type 0
+Looping = tie.At-loop Inv-loop μ-loop
+
+abbrev Fetching : Type 0
+Fetching = tie.After-fetch Inv-loop μ-loop
+
+abbrev Emitting : Type 0
+Emitting = tie.After-emit-native-instr-x64 Inv-loop μ-loop
+
 pub emit-words-spec : {M : Type 1} → statement M
 emit-words-spec =
     tie.close
     (tie.spec
     Inv-loop
     μ-loop
-    (λ c. begins _ _ _ _ _ (c .before .before .pre .1 .fits))
+    (λ c. let start : tie.Start Inv-loop μ-loop = search in begins _ _ _ _ _ (start .pre .1 .fits))
     (λ c κs. search needs)
     (λ c. search needs)
     (λ c κs. search needs)
     (λ c. search needs)
     (λ c.
-    let fetching = c .before .before .before in
-    let looping = fetching .before .before in (
-      lacking (looping .loop .inv) (fetching .before .loop-test .taken) (sym (c .before .enum-told .given .1) ∙ fetching .fetch .ensures)
-          (c .stopped .ensures),
-      search needs,
-    ))
+    let looping : Looping = search in
+    let fetching : Fetching = search in
+    let told : tie.After-enum-told Inv-loop μ-loop = search in
+    let f = sym (told .enum-told .given .1) ∙ fetching .fetch .ensures in
+    (lacking (looping .loop .inv) (search) f (c .stopped .ensures), search needs))
     (λ c. search needs)
     (λ c κs. search needs)
     (λ c. search needs)
     (λ c.
-    let fetching = c .before .before .before .before in
-    let looping = fetching .before .before in
-    let f = sym (c .before .before .fetched .given .1) ∙ fetching .fetch .ensures in (
-      halved (looping .loop .inv) (fetching .before .loop-test .taken) f (c .stopped2 .ensures),
-      search needs,
-    ))
+    let looping : Looping = search in
+    let fetching : Fetching = search in
+    let told : tie.After-fetched Inv-loop μ-loop = search in
+    let f = sym (told .fetched .given .1) ∙ fetching .fetch .ensures in
+    (halved (looping .loop .inv) (search) f (c .stopped2 .ensures), search needs))
     (λ c. search needs)
     (λ c κs. search needs)
     (λ c. search needs)
@@ -49,36 +57,24 @@ emit-words-spec =
     (λ c. search needs)
     (λ c. search needs)
     (λ c.
-    let emitting = c .before .before .before .before .before .before in
-    let found = emitting .before .before .before in
-    let fetching = found .before .before in
-    let looping = fetching .before .before in
-    let f = sym (found .fetched2 .given .1) ∙ fetching .fetch .ensures in
-    let done = going-on _ (looping .loop .inv) (fetching .before .loop-test .taken) f (emitting .emit-native-instr-x64 .ensures) in
-    done (c .before .enum-told2 .given .1) (c .wrapping-add-u64 .ensures))
+    let looping : Looping = search in
+    let emitting : Emitting = search in
+    going-on _ (looping .loop .inv) (search) (emitting .emit-native-instr-x64 .ensures) (cc) (search) (c .wrapping-add-u64 .ensures))
     (λ c. search needs)
     (λ c. search needs)
     (λ c κs. search needs)
     (λ c. search needs)
     (λ c.
-    let emitting = c .before .before .before .before .before .before in
-    let found = emitting .before .before .before in
-    let fetching = found .before .before in
-    let looping = fetching .before .before in
-    let f = sym (found .fetched2 .given .1) ∙ fetching .fetch .ensures in
-    let done = ended _ (looping .loop .inv) (fetching .before .loop-test .taken) f (emitting .emit-native-instr-x64 .ensures) in
-    (done (c .before .enum-told3 .given .1) (c .stopped3 .ensures), search needs))
+    let looping : Looping = search in
+    let emitting : Emitting = search in
+    (ended _ (looping .loop .inv) (search) (emitting .emit-native-instr-x64 .ensures) (cc) (search) (c .stopped3 .ensures), search needs))
     (λ c. search needs)
     (λ c κs. search needs)
     (λ c. search needs)
     (λ c.
-    let emitting = c .before .before .before .before .before .before in
-    let found = emitting .before .before .before in
-    let fetching = found .before .before in
-    let looping = fetching .before .before in
-    let f = sym (found .fetched2 .given .1) ∙ fetching .fetch .ensures in
-    let done = turned-down _ (looping .loop .inv) (fetching .before .loop-test .taken) f (emitting .emit-native-instr-x64 .ensures) in
-    (done (c .before .enum-told4 .given .1) (c .not-emitted .ensures), search needs))
+    let looping : Looping = search in
+    let emitting : Emitting = search in
+    (turned-down _ (looping .loop .inv) (search) (emitting .emit-native-instr-x64 .ensures) (cc) (search) (c .not-emitted .ensures), search needs))
     (λ c κs. search needs)
     (λ c. search needs)
-    (λ c. (used-up (c .before .before .loop .inv) (c .before .loop-test .left) (c .stopped4 .ensures), search needs)))
+    (λ c. let looping : Looping = search in (used-up (looping .loop .inv) (search) (c .stopped4 .ensures), search needs)))

@@ -7,13 +7,12 @@ use Rattle.block.proofs.walk.not_emitted.Tie as tie
 
 returns : tie.Need-returns
 returns c =
-    let kind = c .before .before in
-    let a = kind .before .args in
-    let stopped = c .stopped .ensures in (
-      stopped .0,
-      stopped .1,
-      stopped .2 ∙ c .before .end-by-kind .ensures ∙ ap (λ (n : ℕ). endBy n (a .pc) (a .instr)) (kind .word-kind .ensures),
-    )
+    let start : tie.Start = search in
+    let asking : tie.After-word-kind = search in
+    let ending : tie.After-end-by-kind = search in
+    let stopped = c .stopped .ensures in
+    let named = ap (λ (n : ℕ). endBy n (start .args .pc) (start .args .instr)) (asking .word-kind .ensures) in
+    (stopped .0, stopped .1, stopped .2 ∙ ending .end-by-kind .ensures ∙ named)
 
 pub not-emitted-spec : {M : Type 1} → statement M
 not-emitted-spec =
