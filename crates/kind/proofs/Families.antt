@@ -8,10 +8,12 @@ use native.Mathlib.Omega.{arith}
 use borrow.Author.Tests.{ne-eqb}
 use lib.Dec.{T, eqb, eqb→eq}
 use Rattle.agreement.specs.Riscv.Instruction.{Instruction, Instruction.op, Instruction.opImm, Instruction.branch, Instruction.access, Instruction.unmodelled, Instruction.LUI, Instruction.AUIPC, Instruction.JAL, Instruction.JALR, Instruction.FENCE, Instruction.FENCE·I, Instruction.other}
-use Rattle.agreement.specs.Riscv.Fields.{opcode, funct3, funct7}
+use Rattle.agreement.specs.Riscv.Fields.{funct3, funct7}
 use Rattle.agreement.specs.Translation.Kind.{kind, kindOf, kindNumber}
 use Rattle.agreement.proofs.Laws.Fields.{funct6-in-funct7}
 use Rattle.agreement.proofs.Laws.Matches.{kind-is}
+use Rattle.decode.specs.Decoded.{decoded}
+use Rattle.decode.specs.declared.Decoded32.{Decoded32}
 use Rattle.kind.specs.Family.{Family, classOf, entry}
 use Rattle.kind.proofs.Classes.{sample, by-class, class-small}
 use Rattle.kind.proofs.Tested.{below, at}
@@ -47,27 +49,17 @@ none o h = record {
   some = λ e. absurd (e refl);
 }
 
--- the word's place in the number of its opcode, c being the class of its funct7
-abbrev Bit : ℕ → ℕ → ℕ → ℕ
-Bit w n c = n / 2 ^ (8 * c + funct3 w) % 2
+-- a word with the fields d has its place in the number n of its opcode, c being the class of its funct7
+abbrev Bit : Decoded32 → ℕ → ℕ → ℕ
+Bit d n c = n / 2 ^ (8 * c + d .funct3) % 2
 
-entry-is : (w n c : ℕ) → Family (opcode w) n → c ≡ classOf (funct7 w) → entry n c (funct3 w) ≡ kindNumber (kind w)
-entry-is w n c family e =
+entry-is : {d : Decoded32} {n c : ℕ} (w : ℕ) → d ≡ decoded w → Family (d .opcode) n → c ≡ classOf (d .funct7)
+    → entry n c (d .funct3) ≡ kindNumber (kind w)
+entry-is w e family class =
     let small : funct3 w < 8 = omega arith in
-    rw (kind-is w, ← (funct6-in-funct7 w), e) (family .says (funct3 w) (funct7 w) small)
+    rw (kind-is w, ← (funct6-in-funct7 w), class, e) (rw e at family .says (funct3 w) (funct7 w) small)
 
--- a word whose bit is set, and one whose bit is not
-pub taken : (w n c : ℕ) → Family (opcode w) n → c ≡ classOf (funct7 w) → Bit w n c ≡ 1
-    → (n / 2 ^ 40 ≡ kindNumber (kind w)) × (0 < n / 2 ^ 40)
-taken w n c family e h = (rw h at (entry-is w n c family e), family .some not)
-  where
-    not : n ≢ 0
-    not z = omega (arith, rw (z, zero-div (2 ^ (8 * c + funct3 w))) at h)
-
-pub not-taken : (w n c : ℕ) → Family (opcode w) n → c ≡ classOf (funct7 w) → Bit w n c ≢ 1 → 0 ≡ kindNumber (kind w)
-not-taken w n c family e h = rw (ne-eqb (Bit w n c) 1 h) at (entry-is w n c family e)
-
-pub number-small : (k : Instruction) → kindNumber k < 4
+number-small : (k : Instruction) → kindNumber k < 4
 number-small (op o) = omega arith
 number-small (opImm o) = omega arith
 number-small (branch c) = omega arith
@@ -80,3 +72,18 @@ number-small JALR = omega arith
 number-small FENCE = omega arith
 number-small FENCE·I = omega arith
 number-small other = omega arith
+
+-- a word whose bit is set, and one whose bit is not
+pub taken : {d : Decoded32} {n c : ℕ} (w : ℕ) → d ≡ decoded w → Bit d n c ≡ 1 → Family (d .opcode) n → c ≡ classOf (d .funct7)
+    → (n / 2 ^ 40 ≡ kindNumber (kind w)) × (0 < n / 2 ^ 40) × (n / 2 ^ 40 < 4)
+taken {d} {n} {c} w e h family class = (is, family .some not, rw is (number-small (kind w)))
+  where
+    is : n / 2 ^ 40 ≡ kindNumber (kind w)
+    is = rw h at (entry-is w e family class)
+
+    not : n ≢ 0
+    not z = omega (arith, rw (z, zero-div (2 ^ (8 * c + d .funct3))) at h)
+
+pub not-taken : {d : Decoded32} {n c : ℕ} (w : ℕ) → d ≡ decoded w → Bit d n c ≢ 1 → Family (d .opcode) n → c ≡ classOf (d .funct7)
+    → 0 ≡ kindNumber (kind w)
+not-taken {d} {n} {c} w e h family class = rw (ne-eqb (Bit d n c) 1 h) at (entry-is w e family class)
