@@ -6,7 +6,8 @@ use Rattle.capi.proofs.emuko_place.Tie as tie
 
 returns : tie.Need-returns
 returns c =
-    let A = c .before .before .before .place .ensures in
+    let placing : tie.After-place = search in
+    let A = placing .place .ensures in
     record { replies = c .reply-to-placing .ensures ∙ ap padded (A .answers); leaves = A .leaves }
 
 pub emuko-place-spec : {M : Type 1} → statement M

@@ -6,7 +6,8 @@ use Rattle.capi.proofs.emuko_translate.Tie as tie
 
 returns : tie.Need-returns
 returns c =
-    let A = c .before .before .before .translate .ensures .0 in
+    let translating : tie.After-translate = search in
+    let A = translating .translate .ensures .0 in
     record { replies = c .reply-to-translation .ensures ∙ ap padded (A .answers); leaves = A .leaves }
 
 pub emuko-translate-spec : {M : Type 1} → statement M
