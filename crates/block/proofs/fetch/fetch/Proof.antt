@@ -6,16 +6,16 @@ use Rattle.block.proofs.RunFront.{none-left, half-there, half-lacks, wo
 use Rattle.block.proofs.fetch.fetch.Statement.{statement}
 use Rattle.block.proofs.fetch.fetch.Tie as tie
 
-abbrev start : tie.After-shared-slice-known2 → tie.Start
+start : tie.After-shared-slice-known2 → tie.Start
 start c = search
 
 -- the halfwords of a word fit their type
 lower : (c : tie.After-shared-slice-known2) → getD (start c .args .halfwords .now) (start c .args .k) 0 < 65536
-lower c =
-    let reading : tie.After-shared-slice-known = search in
-    omega (arith, reading .shared-slice-known .given (start c .args .k))
+unfolding start
+lower c = omega (arith, c .shared-slice-known2 .given (start c .args .k))
 
 upper : (c : tie.After-shared-slice-known2) → getD (start c .args .halfwords .now) (start c .args .k + 1) 0 < 65536
+unfolding start
 upper c = omega (arith, c .shared-slice-known2 .given (start c .args .k + 1))
 
 returns : tie.Need-returns
@@ -33,12 +33,14 @@ returns-3 c =
     half-lacks _ _ (there .if1 .left) (long .if2 .left) (c .if3 .taken)
 
 returns-4 : tie.Need-returns-4
+unfolding start
 returns-4 c =
     let long : tie.Else2 = search in
     let both : tie.Else3 = search in
     word-there _ _ (both .if3 .left) (long .if2 .left) (lower c)
 
 pub fetch-spec : {M : Type 1} → statement M
+unfolding start
 fetch-spec =
     tie.close
     (tie.spec
