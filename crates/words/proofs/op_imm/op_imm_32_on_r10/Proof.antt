@@ -34,21 +34,26 @@ op-imm-32-on-r10-spec =
     (λ c. let arm : tie.At-match-keys1 = search in rw (arm .match .keys1) (search (words, needs)))
     (λ c. search needs)
     (λ c.
-    let arm : tie.At-match2-keys1 = search in
-    rw (arm .before .match .keys2, arm .match2 .keys1) (search (words, needs)))
+    let arm : tie.At-match-keys2 = search in
+    let inner : tie.At-match2-keys1 = search in
+    rw (arm .match .keys2, inner .match2 .keys1) (search (words, needs)))
     (λ c.
-    let arm : tie.At-match2-rest = search in
-    rw (arm .before .match .keys2, ne-eqb _ _ (arm .match2 .rest .1)) (search (words, needs)))
+    let arm : tie.At-match-keys2 = search in
+    let inner : tie.At-match2-rest = search in
+    rw (arm .match .keys2, ne-eqb _ _ (inner .match2 .rest .1)) (search (words, needs)))
     (λ c. search needs)
     (λ c.
-    let arm : tie.At-match3-keys1 = search in
-    rw (arm .before .match .keys3, arm .match3 .keys1) (search (words, needs)))
+    let arm : tie.At-match-keys3 = search in
+    let inner : tie.At-match3-keys1 = search in
+    rw (arm .match .keys3, inner .match3 .keys1) (search (words, needs)))
     (λ c. search needs)
     (λ c.
-    let arm : tie.At-match3-keys2 = search in
-    rw (arm .before .match .keys3, arm .match3 .keys2) (search (words, needs)))
+    let arm : tie.At-match-keys3 = search in
+    let inner : tie.At-match3-keys2 = search in
+    rw (arm .match .keys3, inner .match3 .keys2) (search (words, needs)))
     (λ c.
-    let arm : tie.At-match3-rest = search in
-    let r = arm .match3 .rest in
-    rw (arm .before .match .keys3, ne-eqb _ _ (r .0 .1), ne-eqb _ _ (r .1)) (search (words, needs)))
+    let arm : tie.At-match-keys3 = search in
+    let inner : tie.At-match3-rest = search in
+    let r = inner .match3 .rest in
+    rw (arm .match .keys3, ne-eqb _ _ (r .0 .1), ne-eqb _ _ (r .1)) (search (words, needs)))
     none)

@@ -55,21 +55,26 @@ op-imm-on-r10-spec =
     (λ c. let arm : tie.At-match-keys6 = search in rw (arm .match .keys6) (search (words, needs)))
     (λ c. search needs)
     (λ c.
-    let arm : tie.At-match2-keys1 = search in
-    rw (arm .before .match .keys7, arm .match2 .keys1) (search (words, needs)))
+    let arm : tie.At-match-keys7 = search in
+    let inner : tie.At-match2-keys1 = search in
+    rw (arm .match .keys7, inner .match2 .keys1) (search (words, needs)))
     (λ c.
-    let arm : tie.At-match2-rest = search in
-    rw (arm .before .match .keys7, ne-eqb _ _ (arm .match2 .rest .1)) (search (words, needs)))
+    let arm : tie.At-match-keys7 = search in
+    let inner : tie.At-match2-rest = search in
+    rw (arm .match .keys7, ne-eqb _ _ (inner .match2 .rest .1)) (search (words, needs)))
     (λ c. search needs)
     (λ c.
-    let arm : tie.At-match3-keys1 = search in
-    rw (arm .before .match .keys8, arm .match3 .keys1) (search (words, needs)))
+    let arm : tie.At-match-keys8 = search in
+    let inner : tie.At-match3-keys1 = search in
+    rw (arm .match .keys8, inner .match3 .keys1) (search (words, needs)))
     (λ c. search needs)
     (λ c.
-    let arm : tie.At-match3-keys2 = search in
-    rw (arm .before .match .keys8, arm .match3 .keys2) (search (words, needs)))
+    let arm : tie.At-match-keys8 = search in
+    let inner : tie.At-match3-keys2 = search in
+    rw (arm .match .keys8, inner .match3 .keys2) (search (words, needs)))
     (λ c.
-    let arm : tie.At-match3-rest = search in
-    let r = arm .match3 .rest in
-    rw (arm .before .match .keys8, ne-eqb _ _ (r .0 .1), ne-eqb _ _ (r .1)) (search (words, needs)))
+    let arm : tie.At-match-keys8 = search in
+    let inner : tie.At-match3-rest = search in
+    let r = inner .match3 .rest in
+    rw (arm .match .keys8, ne-eqb _ _ (r .0 .1), ne-eqb _ _ (r .1)) (search (words, needs)))
     none)
