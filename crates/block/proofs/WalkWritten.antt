@@ -4,6 +4,7 @@ use mathlib.Core.List.{List, _++_}
 use Prim.Native.Nat.{ℕ, _+_, _≤_}
 use native.Mathlib.Nat.{zero-add}
 use native.Mathlib.Omega.{arith}
+use Rattle.agreement.specs.Common.{greatest, mostSteps}
 use Rattle.agreement.specs.X86.Encode.{bytes}
 use Rattle.agreement.specs.Translation.Emit.{opening}
 use Rattle.agreement.specs.Translation.Walk.{walk, before, ending, instrs, counted, End.goesOn, End.jumped, End.calls}
@@ -46,8 +47,8 @@ most-is (goesOn pc) = refl
 most-is jumped = refl
 most-is (calls h i pc) = refl
 
--- behind the opening and a walk of at most 64 steps there is room for the end
-pub room-to-close : {l m m′ : List ℕ} {b : ℕ} {r : Walked} (n pc : ℕ) (hs : List ℕ) → n ≤ 64 → Room l 0 2243
+-- behind the opening and a walk of `mostSteps` at most there is room for the end
+pub room-to-close : {l m m′ : List ℕ} {b : ℕ} {r : Walked} (n pc : ℕ) (hs : List ℕ) → n ≤ mostSteps → Room l 0 greatest
     → Wrote l 0 (bytes opening) m b → Walks m b 0 (walk n pc hs) m′ r → Room m′ (r .em .at) (most (endAs (r .end)))
 room-to-close n pc hs k h o w = record {
   fits = rw (w .ends, sym (most-is (walk n pc hs .end)))

@@ -2,6 +2,7 @@
 use emitter::X64Emitter;
 ghost use mathlib.Core.Path.{_≡_};
 ghost use Prim.Native.Nat.{_≤_};
+ghost use Rattle.agreement.specs.Common.{mostSteps};
 ghost use Rattle.agreement.specs.X86.Encode.{bytes};
 ghost use Rattle.agreement.specs.Translation.Walk.{ending, goesOn, jumped};
 ghost use Rattle.emitter.specs.Written.{Wrote, Room};
@@ -52,7 +53,7 @@ pub fn close(
     helper16: u64,
     helper_mem: u64,
 ) -> Compiled
-    requires { ⌜ (emitted ≤ 64) × Room (now out) (em .at) (most (endAs end)) ⌝ }
+    requires { ⌜ (emitted ≤ mostSteps) × Room (now out) (em .at) (most (endAs end)) ⌝ }
     ensures { λ r. ⌜ Closes (now (out .entry)) (em .at) helper16 «helper_mem» (endAs end) emitted (now (out .exit)) r ⌝ }
 {
     match end {

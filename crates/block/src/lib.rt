@@ -9,6 +9,7 @@ use crate::first::First;
 use emitter::X64Emitter;
 ghost use mathlib.Core.Path.{_≡_};
 ghost use Prim.Native.Nat.{min, _≤_};
+ghost use Rattle.agreement.specs.Common.{greatest, mostSteps};
 ghost use Rattle.agreement.specs.Translation.Walk.{walk};
 ghost use Rattle.agreement.specs.Translation.Replies.{blockOf};
 ghost use Rattle.emitter.specs.Written.{Room};
@@ -25,13 +26,14 @@ pub enum Answer {
     OutputShort,
 }
 
-// The least output that is accepted: the greatest length of a block.
+// `greatest` of the contracts: the least output that is accepted, and the greatest length of a block.
 const GREATEST: usize = 2243;
 
+// `mostSteps` of the contracts: the words of a block, whatever the limit.
 const MOST_STEPS: u32 = 64;
 
 fn steps(limit: u32) -> u32
-    ensures { λ r. ⌜ (r ≡ min limit 64) × (r ≤ 64) ⌝ }
+    ensures { λ r. ⌜ (r ≡ min limit mostSteps) × (r ≤ mostSteps) ⌝ }
 {
     if limit < MOST_STEPS {
         limit
@@ -49,7 +51,7 @@ fn compile_native_block(
     helper_mem: u64,
     out: &mut [u8],
 ) -> Compiled
-    requires { ⌜ (steps ≤ 64) × Room (now out) 0 2243 ⌝ }
+    requires { ⌜ (steps ≤ mostSteps) × Room (now out) 0 greatest ⌝ }
     ensures { λ r. ⌜ Compiles (blockOf helper16 «helper_mem» (walk steps start (now (halfwords .entry))))
         (now (out .entry)) (now (out .exit)) r ⌝ }
 {

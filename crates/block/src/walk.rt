@@ -6,6 +6,7 @@ use kind::WordKind;
 use words::X64EmitFlow;
 ghost use mathlib.Core.Path.{_≡_};
 ghost use Prim.Native.Nat.{_+_, _*_, _≤_};
+ghost use Rattle.agreement.specs.Common.{mostSteps};
 ghost use Rattle.agreement.specs.Translation.Walk.{walk};
 ghost use Rattle.agreement.specs.Translation.Kind.{kind};
 ghost use Rattle.emitter.specs.Written.{Room};
@@ -54,9 +55,9 @@ pub fn emit_words(
     start: u64,
     steps: u32,
 ) -> Walked
-    requires { ⌜ (steps ≤ 64) × Room (now out) (em .at) (34 * steps + 35) ⌝ }
+    requires { ⌜ (steps ≤ mostSteps) × Room (now out) (em .at) (34 * steps + 35) ⌝ }
     ensures { λ r. ⌜ Walks (now (out .entry)) (em .at) 0 (walk steps start (now (halfwords .entry))) (now (out .exit)) r ⌝ }
-    ensures { λ r. ⌜ r .emitted ≤ 64 ⌝ }
+    ensures { λ r. ⌜ r .emitted ≤ mostSteps ⌝ }
 {
     let mut at = em;
     let mut pc = start;
