@@ -3,20 +3,21 @@ use mathlib.Core.Path.{_≡_, sym, _∙_, subst}
 use mathlib.Core.Logic.{_≢_}
 use mathlib.Core.Bool.{cond}
 use mathlib.Core.List.{List, [], _++_}
-use Prim.Native.Nat.{ℕ, _≤_}
+use Prim.Native.Nat.{ℕ, _+_, _%_, _≤_}
 use native.Mathlib.Omega.{arith}
 use borrow.Author.Tests.{eq-eqb, ne-eqb}
 use lib.Dec.{eqb}
 use lib.ListN.{length}
-use Rattle.agreement.specs.Riscv.Instruction.{Instruction, Instruction.op, Instruction.opImm, Instruction.branch, Instruction.access, Instruction.unmodelled, Instruction.LUI, Instruction.AUIPC, Instruction.JAL, Instruction.JALR, Instruction.FENCE, Instruction.FENCE·I, Instruction.other}
+use Rattle.agreement.specs.Riscv.Instruction.{Op, OpImm, Branch, Instruction, Instruction.op, Instruction.opImm, Instruction.branch, Instruction.access, Instruction.unmodelled, Instruction.LUI, Instruction.AUIPC, Instruction.JAL, Instruction.JALR, Instruction.FENCE, Instruction.FENCE·I, Instruction.other}
 use Rattle.agreement.specs.X86.Form.{Instr}
 use Rattle.agreement.specs.X86.Encode.{bytes}
 use Rattle.agreement.proofs.Host.Straight.{bytes-append}
 use Rattle.agreement.proofs.Laws.Length.{len-body-op, len-body-imm}
+use Rattle.decode.specs.declared.Decoded32.{Decoded32}
 use Rattle.emitter.specs.declared.X64Emitter.{X64Emitter}
 use Rattle.emitter.specs.Written.{Wrote, Room}
 use Rattle.emitter.proofs.WriteLaws.{none, _then_, writes}
-use Rattle.words.specs.Word.{Word, Answers, Emits, opBody, opImmBody, storeIf, stored, finished, behind}
+use Rattle.words.specs.Word.{Word, Answers, Emits, notEmitted, byFamily, opBody, opImmBody, storeIf, stored, finished, behind}
 use Rattle.words.specs.declared.X64EmitFlow.{X64EmitFlow}
 use Rattle.words.specs.declared.Emitted.{Emitted}
 
@@ -67,41 +68,37 @@ finish {m′ = m′} {m″ = m″} {w = w} {e = e} {r = r} is rd p q s = record 
     behind-body =
         subst (λ (f : X64EmitFlow). Wrote m′ (e .em .at) (bytes (storeIf rd f)) m″ (r .em .at)) (q .flows) (s .wrote)
 
--- the bodies are short
-op-short : (k : Instruction) → length (bytes (opBody k .code)) ≤ 13
-op-short (op o) = len-body-op o
-op-short (opImm o) = omega arith
-op-short (branch c) = omega arith
-op-short (access a) = omega arith
-op-short (unmodelled u) = omega arith
-op-short LUI = omega arith
-op-short AUIPC = omega arith
-op-short JAL = omega arith
-op-short JALR = omega arith
-op-short FENCE = omega arith
-op-short FENCE·I = omega arith
-op-short other = omega arith
+-- a property of each of a family's words, and of the word that is not emitted
+each-family : (P : Word → Type 0) {f : Op → Word} {g : OpImm → Word} {h : Branch → Word} {e : Word}
+    → ((o : Op) → P (f o)) → ((o : OpImm) → P (g o)) → ((c : Branch) → P (h c)) → P e → P (notEmitted [])
+    → (k : Instruction) → P (byFamily f g h e k)
+each-family P f g h e n (op o) = f o
+each-family P f g h e n (opImm o) = g o
+each-family P f g h e n (branch c) = h c
+each-family P f g h e n FENCE = e
+each-family P f g h e n FENCE·I = e
+each-family P f g h e n (access a) = n
+each-family P f g h e n (unmodelled u) = n
+each-family P f g h e n LUI = n
+each-family P f g h e n AUIPC = n
+each-family P f g h e n JAL = n
+each-family P f g h e n JALR = n
+each-family P f g h e n other = n
 
-imm-short : (k : Instruction) (i c d : ℕ) → length (bytes (opImmBody k i c d .code)) ≤ 20
-imm-short (opImm o) i c d = len-body-imm o i c d
-imm-short (op o) i c d = omega arith
-imm-short (branch b) i c d = omega arith
-imm-short (access a) i c d = omega arith
-imm-short (unmodelled u) i c d = omega arith
-imm-short LUI i c d = omega arith
-imm-short AUIPC i c d = omega arith
-imm-short JAL i c d = omega arith
-imm-short JALR i c d = omega arith
-imm-short FENCE i c d = omega arith
-imm-short FENCE·I i c d = omega arith
-imm-short other i c d = omega arith
+-- the bodies are short
+abbrev Short : ℕ → Word → Type 0
+Short n w = length (bytes (w .code)) ≤ n
+
+pub op-short : (k : Instruction) → Short 13 (opBody k)
+op-short k = each-family (Short 13) len-body-op (λ o. omega arith) (λ c. omega arith) (omega arith) (omega arith) k
+
+pub imm-short : (k : Instruction) (d : Decoded32) (i : ℕ) → Short 20 (opImmBody k d i)
+imm-short k d i =
+    each-family (Short 20) (λ o. omega arith) (λ o. len-body-imm o i (d .imm12 % 64) (d .imm12 % 32)) (λ c. omega arith)
+    (omega arith) (omega arith) k
 
 -- the room that is left for the store, behind loads and a body
-pub op-room : {l m m′ : List ℕ} {a b : ℕ} {xs : List ℕ} {e : Emitted} (k : Instruction)
-    → Room l a 34 → Wrote l a xs m b → length xs ≤ 14 → Emits m b (opBody k) m′ e → Room m′ (e .em .at) 7
-op-room k h p s q = record { fits = omega (arith, h .fits, p .place, p .size, q .wrote .place, q .wrote .size, op-short k, s) }
-
-pub imm-room : {l m m′ : List ℕ} {a b : ℕ} {xs : List ℕ} {e : Emitted} (k : Instruction) (i c d : ℕ)
-    → Room l a 34 → Wrote l a xs m b → length xs ≤ 7 → Emits m b (opImmBody k i c d) m′ e → Room m′ (e .em .at) 7
-imm-room k i c d h p s q =
-    record { fits = omega (arith, h .fits, p .place, p .size, q .wrote .place, q .wrote .size, imm-short k i c d, s) }
+pub store-room : {l m m′ : List ℕ} {a b : ℕ} {xs : List ℕ} {w : Word} {e : Emitted}
+    → Room l a 34 → Wrote l a xs m b → Emits m b w m′ e → length xs + length (bytes (w .code)) ≤ 27
+    → Room m′ (e .em .at) 7
+store-room h p q s = record { fits = omega (arith, h .fits, p .place, p .size, q .wrote .place, q .wrote .size, s) }

@@ -10,8 +10,7 @@ use Rattle.decode.specs.Decoded.{decoded}
 use Rattle.agreement.specs.Riscv.Fields.{opcode, rd, funct3, rs1, rs2, funct7, funct6, bits, shamt5, shamt6}
 use Rattle.agreement.specs.Riscv.Immediates as Manual
 use Rattle.agreement.specs.Riscv.Instruction.{Op, OpImm, Branch, Instruction, Instruction.op, Instruction.opImm, Instruction.branch, Instruction.other}
-use Rattle.agreement.specs.X86.Form.{R10}
-use Rattle.agreement.specs.Translation.Emit.{loadReg, compare, leftover}
+use Rattle.agreement.specs.Translation.Emit.{leftover}
 use Rattle.agreement.specs.Translation.Kind.{match, kind, kindOf}
 use Rattle.agreement.specs.Translation.Decode32.{wrappingAdd}
 use Rattle.agreement.specs.Translation.Decode32 as Decode32
@@ -19,20 +18,18 @@ use Rattle.agreement.proofs.Laws.Fields.{opcode-is, funct6-of, rd-is, rs1-is, r
 use Rattle.agreement.proofs.Laws.Immediates.{immI-is, immB-is, immU-is, immJ-is}
 use Rattle.agreement.proofs.Laws.Matches.{decide, kind-is}
 use Rattle.words.proofs.FamilyMatches.{each-op, each-op-32, each-op-imm, each-op-imm-32, each-branch, each-fence, each-load, each-store}
-use Rattle.words.specs.Word.{Small, wordAs, wordBy, notEmitted, opBody, opImmBody, branchBody, fenceWord, loadPair, finished, behind}
+use Rattle.words.specs.Word.{Small, wordAs, wordBy, notEmitted, opWord, opImmWord, branchWord, fenceWord}
 
 -- OP and OP-32
 abbrev OpIs : ℕ → ℕ → Instruction → Type 0
-OpIs pc w k = finished (loadPair (rs1 w) (rs2 w)) (opBody k) (rd w) ≡ wordAs k pc w
+OpIs pc w k = opWord k (decoded w) ≡ wordAs k pc w
 
 op-taken : (pc w : ℕ) (o : Op) → OpIs pc w (op o)
 op-taken pc w o = rw (rd-is w, rs1-is w, rs2-is w) refl
 
 -- OP-IMM and OP-IMM-32
 abbrev ImmIs : ℕ → ℕ → Instruction → Type 0
-ImmIs pc w k =
-    finished (loadReg R10 (rs1 w) ∷ []) (opImmBody k (Manual.immI w % 2 ^ 32) (bits 31 20 w % 64) (bits 31 20 w % 32)) (rd w)
-    ≡ wordAs k pc w
+ImmIs pc w k = opImmWord k (decoded w) (Manual.immI w % 2 ^ 32) ≡ wordAs k pc w
 
 imm-taken : (pc w : ℕ) → w < 2 ^ 32 → (o : OpImm) → ImmIs pc w (opImm o)
 unfolding Decode32.imm32
@@ -43,8 +40,7 @@ imm-taken pc w h o =
 
 -- BRANCH
 abbrev BranchIs : ℕ → ℕ → Instruction → Type 0
-BranchIs pc w k =
-    behind (compare (rs1 w) (rs2 w)) (branchBody k (wrappingAdd pc 4) (wrappingAdd pc (Manual.immB w))) ≡ wordAs k pc w
+BranchIs pc w k = branchWord k (decoded w) (wrappingAdd pc 4) (wrappingAdd pc (Manual.immB w)) ≡ wordAs k pc w
 
 branch-taken : (pc w : ℕ) (c : Branch) → BranchIs pc w (branch c)
 branch-taken pc w c = rw (rs1-is w, rs2-is w, immB-is w) refl

@@ -21,6 +21,8 @@ use Rattle.words.specs.declared.X64EmitFlow.{X64EmitFlow}
 use Rattle.words.specs.declared.X64EmitFlow.the-variants.{Continue, Terminate, NotEmitted}
 use Rattle.words.specs.declared.Emitted.{Emitted}
 
+-- 1. A word: how the block goes on behind it, and its host instructions
+
 pub record Word : Type 0 where
   pub flow : X64EmitFlow
   pub code : List Instr
@@ -33,6 +35,18 @@ ends is = record { flow = Terminate; code = is }
 
 abbrev pub notEmitted : List Instr → Word
 notEmitted is = record { flow = NotEmitted; code = is }
+
+-- the answer of a word: how the block goes on, and the emitter behind what was written
+pub record Answers (f : X64EmitFlow) (em : X64Emitter) (e : Emitted) : Type 0 where
+  pub flows : e .flow ≡ f
+  pub stands : e .em ≡ em
+
+-- the word was written at the emitter's place
+pub record Emits (before : List ℕ) (at : ℕ) (w : Word) (after : List ℕ) (e : Emitted) : Type 0 where
+  pub flows : e .flow ≡ w .flow
+  pub wrote : Wrote before at (bytes (w .code)) after (e .em .at)
+
+-- 2. By the instruction that `kind` names
 
 -- the word w at pc
 abbrev pub wordAs : Instruction → ℕ → ℕ → Word
@@ -56,15 +70,50 @@ endBy n pc w = cond (eqb n 3) (calls forAccess w pc) (End.goesOn pc)
 abbrev pub endAt : Instruction → ℕ → ℕ → End
 endAt k pc w = endBy (kindNumber k) pc w
 
--- the answer of a word: how the block goes on, and the emitter behind what was written
-pub record Answers (f : X64EmitFlow) (em : X64Emitter) (e : Emitted) : Type 0 where
-  pub flows : e .flow ≡ f
-  pub stands : e .em ≡ em
+-- 3. Parts of a word's code
 
--- the word was written at the emitter's place
-pub record Emits (before : List ℕ) (at : ℕ) (w : Word) (after : List ℕ) (e : Emitted) : Type 0 where
-  pub flows : e .flow ≡ w .flow
-  pub wrote : Wrote before at (bytes (w .code)) after (e .em .at)
+-- both source registers: what `codeOp` and `compare` begin with
+abbrev pub loadPair : ℕ → ℕ → List Instr
+loadPair r s = loadReg R10 r ∷ loadReg R11 s ∷ []
+
+-- the store of the result, where the word goes on
+abbrev pub storeIf : ℕ → X64EmitFlow → List Instr
+storeIf r Continue = storeReg r R10
+storeIf r Terminate = []
+storeIf r NotEmitted = []
+
+-- the store behind a body that answers f; the word answers the same
+abbrev pub stored : ℕ → X64EmitFlow → Word
+stored r f = record { flow = f; code = storeIf r f }
+
+-- loads, a body, and the store behind it
+abbrev pub finished : List Instr → Word → ℕ → Word
+finished loads w r = record { flow = w .flow; code = loads ++ (w .code ++ storeIf r (w .flow)) }
+
+-- instructions before a word
+abbrev pub behind : List Instr → Word → Word
+behind is w = record { flow = w .flow; code = is ++ w .code }
+
+-- the part of `codeBranch` behind `compare`: the target into RAX where the condition holds, else the next pc
+abbrev pub select : Cc → ℕ → ℕ → List Instr
+select c next target = movImm64 R11 next ∷ movImm64 RAX target ∷ cmov c R11 RAX ∷ mov RAX R11 ∷ []
+
+-- the first part of `codeJalr`: the target in R10
+abbrev pub jalrTarget : ℕ → ℕ → List Instr
+jalrTarget r i = loadReg R10 r ∷ aluImm32 add R10 i ∷ aluImm32 and R10 (2 ^ 32 - 2) ∷ []
+
+-- the second part of `codeJalr`: the link through R11, nothing for x0. RAX gets the target behind it
+abbrev pub jalrLink : ℕ → ℕ → List Instr
+jalrLink r link = cond (eqb r 0) [] (movImm64 R11 link ∷ store RBX (8 * r) R11 ∷ [])
+
+-- 4. By the word's fields d, and the instruction k that the match of its family gives
+
+-- the registers and the immediate are as narrow as their fields
+pub record Small (d : Decoded32) : Type 0 where
+  pub rd-small : d .rd < 32
+  pub rs1-small : d .rs1 < 32
+  pub rs2-small : d .rs2 < 32
+  pub imm12-small : d .imm12 < 4096
 
 -- what a family of words has, by the instruction that its match gives: OP, OP-IMM, BRANCH, MISC-MEM; all else is not emitted
 abbrev pub byFamily : (Op → Word) → (OpImm → Word) → (Branch → Word) → Word → Instruction → Word
@@ -85,97 +134,45 @@ byFamily f g h e other = notEmitted []
 abbrev pub opBody : Instruction → Word
 opBody k = byFamily (λ o. goesOn (bodyOp o)) (λ _. notEmitted []) (λ _. notEmitted []) (notEmitted []) k
 
--- the part of OP-IMM and OP-IMM-32 that works on R10
-abbrev pub opImmBody : Instruction → ℕ → ℕ → ℕ → Word
-opImmBody k i c d = byFamily (λ _. notEmitted []) (λ o. goesOn (bodyOpImm o i c d)) (λ _. notEmitted []) (notEmitted []) k
+-- the part of OP-IMM and OP-IMM-32 that works on R10; i: the immediate's 32 bits
+abbrev pub opImmBody : Instruction → Decoded32 → ℕ → Word
+opImmBody k d i =
+    byFamily (λ _. notEmitted []) (λ o. goesOn (bodyOpImm o i (d .imm12 % 64) (d .imm12 % 32))) (λ _. notEmitted []) (notEmitted []) k
 
--- the store of the result, where the word goes on
-abbrev pub storeIf : ℕ → X64EmitFlow → List Instr
-storeIf r Continue = storeReg r R10
-storeIf r Terminate = []
-storeIf r NotEmitted = []
-
--- the store behind a body that answers f; the word answers the same
-abbrev pub stored : ℕ → X64EmitFlow → Word
-stored r f = record { flow = f; code = storeIf r f }
-
--- loads, a body, and the store behind it
-abbrev pub finished : List Instr → Word → ℕ → Word
-finished loads w r = record { flow = w .flow; code = loads ++ (w .code ++ storeIf r (w .flow)) }
-
--- instructions before a word
-abbrev pub behind : List Instr → Word → Word
-behind is w = record { flow = w .flow; code = is ++ w .code }
-
--- both source registers: what `codeOp` and `compare` begin with
-abbrev pub loadPair : ℕ → ℕ → List Instr
-loadPair r s = loadReg R10 r ∷ loadReg R11 s ∷ []
-
--- OP and OP-32 by the fields d
-abbrev pub opWord : Decoded32 → Word
-opWord d = finished (loadPair (d .rs1) (d .rs2)) (opBody (kindOp (d .funct3) (d .funct7))) (d .rd)
-
-abbrev pub op32Word : Decoded32 → Word
-op32Word d = finished (loadPair (d .rs1) (d .rs2)) (opBody (kindOp32 (d .funct3) (d .funct7))) (d .rd)
-
--- OP-IMM and OP-IMM-32 by the fields d and the immediate's 32 bits i
-abbrev pub opImmBodyOf : Decoded32 → ℕ → Word
-opImmBodyOf d i = opImmBody (kindOpImm (d .funct3) (d .imm12 / 64)) i (d .imm12 % 64) (d .imm12 % 32)
-
-abbrev pub opImm32BodyOf : Decoded32 → ℕ → Word
-opImm32BodyOf d i = opImmBody (kindOpImm32 (d .funct3) (d .funct7)) i (d .imm12 % 64) (d .imm12 % 32)
-
-abbrev pub opImmWord : Decoded32 → ℕ → Word
-opImmWord d i = finished (loadReg R10 (d .rs1) ∷ []) (opImmBodyOf d i) (d .rd)
-
-abbrev pub opImm32Word : Decoded32 → ℕ → Word
-opImm32Word d i = finished (loadReg R10 (d .rs1) ∷ []) (opImm32BodyOf d i) (d .rd)
-
--- the part of `codeBranch` behind `compare`: the target into RAX where the condition holds, else the next pc
-abbrev pub select : Cc → ℕ → ℕ → List Instr
-select c next target = movImm64 R11 next ∷ movImm64 RAX target ∷ cmov c R11 RAX ∷ mov RAX R11 ∷ []
-
+-- the part of BRANCH behind the comparison
 abbrev pub branchBody : Instruction → ℕ → ℕ → Word
 branchBody k next target =
     byFamily (λ _. notEmitted []) (λ _. notEmitted []) (λ c. ends (select (ccFor c) next target)) (notEmitted []) k
 
--- BRANCH by the fields d
-abbrev pub branchWord : Decoded32 → ℕ → ℕ → Word
-branchWord d next target = behind (compare (d .rs1) (d .rs2)) (branchBody (kindBranch (d .funct3)) next target)
+abbrev pub opWord : Instruction → Decoded32 → Word
+opWord k d = finished (loadPair (d .rs1) (d .rs2)) (opBody k) (d .rd)
 
--- the first part of `codeJalr`: the target in R10
-abbrev pub jalrTarget : ℕ → ℕ → List Instr
-jalrTarget r i = loadReg R10 r ∷ aluImm32 add R10 i ∷ aluImm32 and R10 (2 ^ 32 - 2) ∷ []
+abbrev pub opImmWord : Instruction → Decoded32 → ℕ → Word
+opImmWord k d i = finished (loadReg R10 (d .rs1) ∷ []) (opImmBody k d i) (d .rd)
 
--- the second part of `codeJalr`: the link through R11, nothing for x0. RAX gets the target behind it
-abbrev pub jalrLink : ℕ → ℕ → List Instr
-jalrLink r link = cond (eqb r 0) [] (movImm64 R11 link ∷ store RBX (8 * r) R11 ∷ [])
+abbrev pub branchWord : Instruction → Decoded32 → ℕ → ℕ → Word
+branchWord k d next target = behind (compare (d .rs1) (d .rs2)) (branchBody k next target)
 
 -- MISC-MEM
 abbrev pub fenceWord : Instruction → Word
 fenceWord k = byFamily (λ _. notEmitted []) (λ _. notEmitted []) (λ _. notEmitted []) (goesOn []) k
 
--- the registers and the immediate are as narrow as their fields
-pub record Small (d : Decoded32) : Type 0 where
-  pub rd-small : d .rd < 32
-  pub rs1-small : d .rs1 < 32
-  pub rs2-small : d .rs2 < 32
-  pub imm12-small : d .imm12 < 4096
-
--- the word w at pc, by its fields d: the match on the opcode, in the order of the code
+-- the word w at pc: the match on the opcode, in the order of the code
 abbrev pub wordBy : ℕ → ℕ → Decoded32 → Word
 wordBy pc w d =
     cond (eqb (d .opcode) 0x37) (goesOn (codeConst (d .rd) (Manual.immU w))) (
     cond (eqb (d .opcode) 0x17) (goesOn (codeConst (d .rd) (wrappingAdd pc (Manual.immU w)))) (
     cond (eqb (d .opcode) 0x6F) (ends (codeJal (d .rd) (wrappingAdd pc 4) (wrappingAdd pc (Manual.immJ w)))) (
     cond (eqb (d .opcode) 0x67) (ends (codeJalr (d .rd) (d .rs1) (Manual.immI w % 2 ^ 32) (wrappingAdd pc 4))) (
-    cond (eqb (d .opcode) 0x63) (branchWord d (wrappingAdd pc 4) (wrappingAdd pc (Manual.immB w))) (
-    cond (eqb (d .opcode) 0x13) (opImmWord d (Manual.immI w % 2 ^ 32)) (
-    cond (eqb (d .opcode) 0x1B) (opImm32Word d (Manual.immI w % 2 ^ 32)) (
-    cond (eqb (d .opcode) 0x33) (opWord d) (
-    cond (eqb (d .opcode) 0x3B) (op32Word d) (
+    cond (eqb (d .opcode) 0x63) (branchWord (kindBranch (d .funct3)) d (wrappingAdd pc 4) (wrappingAdd pc (Manual.immB w))) (
+    cond (eqb (d .opcode) 0x13) (opImmWord (kindOpImm (d .funct3) (d .imm12 / 64)) d (Manual.immI w % 2 ^ 32)) (
+    cond (eqb (d .opcode) 0x1B) (opImmWord (kindOpImm32 (d .funct3) (d .funct7)) d (Manual.immI w % 2 ^ 32)) (
+    cond (eqb (d .opcode) 0x33) (opWord (kindOp (d .funct3) (d .funct7)) d) (
+    cond (eqb (d .opcode) 0x3B) (opWord (kindOp32 (d .funct3) (d .funct7)) d) (
     cond (eqb (d .opcode) 0x0F) (fenceWord (kindFence (d .funct3)))
     (notEmitted []))))))))))
+
+-- 5. What stands around the words: parts of the opening, the closing and the helper ends
 
 -- the first part of `opening`, up to the stack pointer's 8 bytes
 abbrev pub pushes : List Instr

@@ -97,7 +97,7 @@ fn branch_compare(em: X64Emitter, out: &mut [u8], rs1: u8, rs2: u8) -> X64Emitte
 // BRANCH: a reserved funct3 is not taken, behind the comparison.
 pub fn branch_word(em: X64Emitter, out: &mut [u8], d: Decoded32, next: u64, target: u64) -> Emitted
     requires { ⌜ Small d × Room (now out) (em .at) 44 ⌝ }
-    ensures { λ r. ⌜ Emits (now (out .entry)) (em .at) (branchWord d next target) (now (out .exit)) r ⌝ }
+    ensures { λ r. ⌜ Emits (now (out .entry)) (em .at) (branchWord (kindBranch (d .funct3)) d next target) (now (out .exit)) r ⌝ }
 {
     let a = branch_compare(em, out, d.rs1, d.rs2);
     branch_on_flags(a, out, d.funct3, next, target)

@@ -15,7 +15,7 @@ ghost use Rattle.agreement.specs.X86.Form.{aluImm8, and, RCX, R11, mov};
 ghost use Rattle.agreement.specs.X86.Encode.{bytes};
 ghost use Rattle.agreement.specs.Translation.Kind.{kindOp, kindOp32};
 ghost use Rattle.emitter.specs.Written.{Wrote, Room};
-ghost use Rattle.words.specs.Word.{Emits, Small, opBody, opWord, op32Word};
+ghost use Rattle.words.specs.Word.{Emits, Small, opBody, opWord};
 
 // OP with F7_BASE.
 fn op_base(em: X64Emitter, out: &mut [u8], funct3: u8) -> Emitted
@@ -165,7 +165,7 @@ fn op_32_on_r10(em: X64Emitter, out: &mut [u8], funct3: u8, funct7: u8) -> Emitt
 // OP.
 pub fn op_word(em: X64Emitter, out: &mut [u8], d: Decoded32) -> Emitted
     requires { ⌜ Small d × Room (now out) (em .at) 34 ⌝ }
-    ensures { λ r. ⌜ Emits (now (out .entry)) (em .at) (opWord d) (now (out .exit)) r ⌝ }
+    ensures { λ r. ⌜ Emits (now (out .entry)) (em .at) (opWord (kindOp (d .funct3) (d .funct7)) d) (now (out .exit)) r ⌝ }
 {
     let a = x64_emit_load_pair(em, out, d.rs1, d.rs2);
     let e = op_on_r10(a, out, d.funct3, d.funct7);
@@ -175,7 +175,7 @@ pub fn op_word(em: X64Emitter, out: &mut [u8], d: Decoded32) -> Emitted
 // OP-32.
 pub fn op_32_word(em: X64Emitter, out: &mut [u8], d: Decoded32) -> Emitted
     requires { ⌜ Small d × Room (now out) (em .at) 34 ⌝ }
-    ensures { λ r. ⌜ Emits (now (out .entry)) (em .at) (op32Word d) (now (out .exit)) r ⌝ }
+    ensures { λ r. ⌜ Emits (now (out .entry)) (em .at) (opWord (kindOp32 (d .funct3) (d .funct7)) d) (now (out .exit)) r ⌝ }
 {
     let a = x64_emit_load_pair(em, out, d.rs1, d.rs2);
     let e = op_32_on_r10(a, out, d.funct3, d.funct7);

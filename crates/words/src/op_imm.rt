@@ -10,14 +10,15 @@ use decode::Decoded32;
 use decode::isa;
 use emitter::X64Cc;
 use emitter::X64Emitter;
-ghost use Prim.Native.Nat.{_<_};
+ghost use Prim.Native.Nat.{_/_, _<_};
+ghost use Rattle.agreement.specs.Translation.Kind.{kindOpImm, kindOpImm32};
 ghost use Rattle.emitter.specs.Written.{Room};
-ghost use Rattle.words.specs.Word.{Emits, Small, opImmBodyOf, opImm32BodyOf, opImmWord, opImm32Word};
+ghost use Rattle.words.specs.Word.{Emits, Small, opImmBody, opImmWord};
 
 // OP-IMM on R10, the result in R10.
 fn op_imm_on_r10(em: X64Emitter, out: &mut [u8], d: Decoded32, imm: u32) -> Emitted
     requires { ⌜ (d .imm12 < 4096) × Room (now out) (em .at) 14 ⌝ }
-    ensures { λ r. ⌜ Emits (now (out .entry)) (em .at) (opImmBodyOf d imm) (now (out .exit)) r ⌝ }
+    ensures { λ r. ⌜ Emits (now (out .entry)) (em .at) (opImmBody (kindOpImm (d .funct3) (d .imm12 / 64)) d imm) (now (out .exit)) r ⌝ }
 {
     let funct3 = d.funct3;
     let imm_hi = (d.imm12 / 64) as u8;
@@ -45,7 +46,7 @@ fn op_imm_on_r10(em: X64Emitter, out: &mut [u8], d: Decoded32, imm: u32) -> Emit
 // OP-IMM-32 on R10, the result in R10.
 fn op_imm_32_on_r10(em: X64Emitter, out: &mut [u8], d: Decoded32, imm: u32) -> Emitted
     requires { ⌜ (d .imm12 < 4096) × Room (now out) (em .at) 14 ⌝ }
-    ensures { λ r. ⌜ Emits (now (out .entry)) (em .at) (opImm32BodyOf d imm) (now (out .exit)) r ⌝ }
+    ensures { λ r. ⌜ Emits (now (out .entry)) (em .at) (opImmBody (kindOpImm32 (d .funct3) (d .funct7)) d imm) (now (out .exit)) r ⌝ }
 {
     let funct3 = d.funct3;
     let funct7 = d.funct7;
@@ -68,7 +69,7 @@ fn op_imm_32_on_r10(em: X64Emitter, out: &mut [u8], d: Decoded32, imm: u32) -> E
 // OP-IMM.
 pub fn op_imm_word(em: X64Emitter, out: &mut [u8], d: Decoded32, imm: u32) -> Emitted
     requires { ⌜ Small d × Room (now out) (em .at) 34 ⌝ }
-    ensures { λ r. ⌜ Emits (now (out .entry)) (em .at) (opImmWord d imm) (now (out .exit)) r ⌝ }
+    ensures { λ r. ⌜ Emits (now (out .entry)) (em .at) (opImmWord (kindOpImm (d .funct3) (d .imm12 / 64)) d imm) (now (out .exit)) r ⌝ }
 {
     let a = x64_emit_load_reg(em, out, X64Emitter::R10, d.rs1);
     let e = op_imm_on_r10(a, out, d, imm);
@@ -78,7 +79,7 @@ pub fn op_imm_word(em: X64Emitter, out: &mut [u8], d: Decoded32, imm: u32) -> Em
 // OP-IMM-32.
 pub fn op_imm_32_word(em: X64Emitter, out: &mut [u8], d: Decoded32, imm: u32) -> Emitted
     requires { ⌜ Small d × Room (now out) (em .at) 34 ⌝ }
-    ensures { λ r. ⌜ Emits (now (out .entry)) (em .at) (opImm32Word d imm) (now (out .exit)) r ⌝ }
+    ensures { λ r. ⌜ Emits (now (out .entry)) (em .at) (opImmWord (kindOpImm32 (d .funct3) (d .funct7)) d imm) (now (out .exit)) r ⌝ }
 {
     let a = x64_emit_load_reg(em, out, X64Emitter::R10, d.rs1);
     let e = op_imm_32_on_r10(a, out, d, imm);

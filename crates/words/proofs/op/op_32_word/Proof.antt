@@ -2,7 +2,7 @@ use borrow.Author.Needs.{needs}
 use native.Mathlib.Omega.{arith}
 use Rattle.agreement.specs.Translation.Kind.{kindOp32}
 use Rattle.words.specs.Word.{loadPair}
-use Rattle.words.proofs.Joined.{finish, op-room}
+use Rattle.words.proofs.Joined.{finish, op-short, store-room}
 use Rattle.words.proofs.op.op_32_word.Statement.{statement}
 use Rattle.words.proofs.op.op_32_word.Tie as tie
 
@@ -13,8 +13,8 @@ store-rd-requires c κs =
     let start : tie.Start = search in
     let d = start .args .d in (
       start .pre .0 .rd-small,
-      op-room (kindOp32 (d .funct3) (d .funct7))
-          (start .pre .1) (loads .x64-emit-load-pair .ensures) (omega arith) (body .op-32-on-r10 .ensures),
+      store-room (start .pre .1) (loads .x64-emit-load-pair .ensures) (body .op-32-on-r10 .ensures)
+          (omega (arith, op-short (kindOp32 (d .funct3) (d .funct7)))),
     )
 
 returns : tie.Need-returns

@@ -1,11 +1,11 @@
 use borrow.Author.Needs.{needs}
 use mathlib.Core.List.{[], _∷_}
-use Prim.Native.Nat.{_/_, _%_}
+use Prim.Native.Nat.{_/_}
 use native.Mathlib.Omega.{arith}
 use Rattle.agreement.specs.Translation.Kind.{kindOpImm}
 use Rattle.agreement.specs.Translation.Emit.{loadReg}
 use Rattle.agreement.specs.X86.Form.{R10}
-use Rattle.words.proofs.Joined.{finish, imm-room}
+use Rattle.words.proofs.Joined.{finish, imm-short, store-room}
 use Rattle.words.proofs.op_imm.op_imm_word.Statement.{statement}
 use Rattle.words.proofs.op_imm.op_imm_word.Tie as tie
 
@@ -16,8 +16,8 @@ store-rd-requires c κs =
     let start : tie.Start = search in
     let d = start .args .d in (
       start .pre .0 .rd-small,
-      imm-room (kindOpImm (d .funct3) (d .imm12 / 64)) (start .args .imm) (d .imm12 % 64) (d .imm12 % 32)
-          (start .pre .1) (loads .x64-emit-load-reg .ensures) (omega arith) (body .op-imm-on-r10 .ensures),
+      store-room (start .pre .1) (loads .x64-emit-load-reg .ensures) (body .op-imm-on-r10 .ensures)
+          (omega (arith, imm-short (kindOpImm (d .funct3) (d .imm12 / 64)) d (start .args .imm))),
     )
 
 returns : tie.Need-returns
