@@ -1,13 +1,13 @@
 -- The match on the opcode gives every word what the definitions of crate agreement give it.
 use mathlib.Core.Path.{_≡_, refl}
 use mathlib.Core.Logic.{_≢_}
-use mathlib.Core.List.{[], _∷_}
+use mathlib.Core.List.{[]}
 use Prim.Native.Nat.{ℕ, _/_, _%_, _^_, _<_}
 use native.Mathlib.Omega.{arith}
 use borrow.Author.Tests.{ne-eqb}
 use lib.Pow.{mod-mod-pow}
 use Rattle.decode.specs.Decoded.{decoded}
-use Rattle.agreement.specs.Riscv.Fields.{opcode, rd, funct3, rs1, rs2, funct7, funct6, bits, shamt5, shamt6}
+use Rattle.agreement.specs.Riscv.Fields.{opcode, funct3, rs1, rs2, funct7, funct6, bits, shamt5, shamt6}
 use Rattle.agreement.specs.Riscv.Immediates as Manual
 use Rattle.agreement.specs.Riscv.Instruction.{Op, OpImm, Branch, Instruction, Instruction.op, Instruction.opImm, Instruction.branch, Instruction.other}
 use Rattle.agreement.specs.Translation.Emit.{leftover}

@@ -5,13 +5,13 @@ use mathlib.Core.List.{List, [], _∷_, _++_}
 use mathlib.Core.Bool.{cond}
 use Prim.Native.Nat.{ℕ, _-_, _*_, _/_, _%_, _^_, _<_}
 use lib.Dec.{eqb}
-use Rattle.agreement.specs.Common.{Helper.forAccess}
+use Rattle.agreement.specs.Common.{Helper.forHalfword, Helper.forAccess}
 use Rattle.agreement.specs.Riscv.Instruction.{Op, OpImm, Branch, Instruction, Instruction.op, Instruction.opImm, Instruction.branch, Instruction.access, Instruction.unmodelled, Instruction.LUI, Instruction.AUIPC, Instruction.JAL, Instruction.JALR, Instruction.FENCE, Instruction.FENCE·I, Instruction.other}
-use Rattle.agreement.specs.X86.Form.{RAX, RCX, RDX, RBX, RBP, RSI, RDI, R8, R9, R10, R11, R12, R13, R14, R15, Cc, Alu.add, Alu.and, Instr, Instr.push, Instr.pop, Instr.mov, Instr.callRax, Instr.ret, Instr.movImm64, Instr.store, Instr.aluImm32, Instr.cmov}
+use Rattle.agreement.specs.X86.Form.{RAX, RCX, RDX, RBX, RBP, RSI, RDI, R8, R9, R10, R11, R12, R13, R14, R15, Cc, Alu.add, Alu.and, Instr, Instr.push, Instr.pop, Instr.mov, Instr.movImm64, Instr.store, Instr.aluImm32, Instr.cmov}
 use Rattle.agreement.specs.X86.Encode.{bytes}
 use Rattle.agreement.specs.Translation.Decode32.{opcode, rd, rs1, rs2, imm32, shamt, shamtW, immU, immB, immJ, wrappingAdd}
-use Rattle.agreement.specs.Translation.Emit.{closing, passes, addCount, bodyOp, bodyOpImm, codeOp, codeOpImm, codeConst, codeJal, codeJalr, codeBranch, ccFor, compare, loadReg, storeReg, leftover}
-use Rattle.agreement.specs.Translation.Walk.{End, End.calls}
+use Rattle.agreement.specs.Translation.Emit.{bodyOp, bodyOpImm, codeOp, codeOpImm, codeConst, codeJal, codeJalr, codeBranch, ccFor, compare, loadReg, storeReg, leftover}
+use Rattle.agreement.specs.Translation.Walk.{End, End.calls, ending}
 use Rattle.agreement.specs.Translation.Kind.{kindNumber, kindOp, kindOp32, kindOpImm, kindOpImm32, kindBranch, kindFence}
 use Rattle.agreement.specs.Riscv.Immediates as Manual
 use Rattle.decode.specs.declared.Decoded32.{Decoded32}
@@ -194,6 +194,6 @@ hostArguments = mov RDI R12 ∷ mov RSI R13 ∷ mov RDX R14 ∷ []
 abbrev pub guestArguments : ℕ → ℕ → ℕ → List Instr
 guestArguments i pc a = movImm64 RCX i ∷ movImm64 R8 pc ∷ movImm64 RAX a ∷ []
 
--- a helper end, as `ending` of crate agreement has it
+-- a helper end that calls the address a, behind n instructions
 abbrev pub helperEnd : ℕ → ℕ → ℕ → ℕ → List Instr
-helperEnd i pc a n = passes i pc a ++ callRax ∷ (addCount n ++ (closing ++ ret ∷ []))
+helperEnd i pc a n = ending a a (calls forHalfword i pc) n

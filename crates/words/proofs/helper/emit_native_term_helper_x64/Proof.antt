@@ -2,11 +2,13 @@ use borrow.Author.Needs.{needs}
 use mathlib.Core.List.{[], _∷_, _++_}
 use Rattle.agreement.specs.X86.Form.{Instr.callRax, Instr.ret}
 use Rattle.agreement.specs.Translation.Emit.{passes, addCount, closing}
+use Rattle.agreement.specs.Translation.Walk.{ending}
 use Rattle.words.proofs.Joined.{joined}
 use Rattle.words.proofs.helper.emit_native_term_helper_x64.Statement.{statement}
 use Rattle.words.proofs.helper.emit_native_term_helper_x64.Tie as tie
 
 returns : tie.Need-returns
+unfolding ending
 returns c =
     let closes : tie.After-x64-emit-epilogue = search in
     let counts : tie.After-add-count = search in
