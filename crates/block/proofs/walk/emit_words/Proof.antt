@@ -67,14 +67,16 @@ emit-words-spec =
     (λ c.
     let looping : Looping = search in
     let emitting : Emitting = search in
-    (ended _ (looping .loop .inv) (search) (emitting .emit-native-instr-x64 .ensures) (cc) (search) (c .stopped3 .ensures), search needs))
+    let done = ended _ (looping .loop .inv) (search) (emitting .emit-native-instr-x64 .ensures) (cc) in
+    (done (search) (c .stopped3 .ensures), search needs))
     (λ c. search needs)
     (λ c κs. search needs)
     (λ c. search needs)
     (λ c.
     let looping : Looping = search in
     let emitting : Emitting = search in
-    (turned-down _ (looping .loop .inv) (search) (emitting .emit-native-instr-x64 .ensures) (cc) (search) (c .not-emitted .ensures), search needs))
+    let done = turned-down _ (looping .loop .inv) (search) (emitting .emit-native-instr-x64 .ensures) (cc) in
+    (done (search) (c .not-emitted .ensures), search needs))
     (λ c κs. search needs)
     (λ c. search needs)
     (λ c. let looping : Looping = search in (used-up (looping .loop .inv) (search) (c .stopped4 .ensures), search needs)))
