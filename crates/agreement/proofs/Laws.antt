@@ -1,4 +1,5 @@
 pub mod Tests
+pub mod Values
 pub mod Width
 pub mod Compare
 pub mod Fields

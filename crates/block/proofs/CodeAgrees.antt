@@ -3,8 +3,12 @@ use mathlib.Core.Path.{refl, sym, _∙_}
 use mathlib.Core.List.{List}
 use Prim.Native.Nat.{ℕ}
 use lib.ListN.{length}
-use Rattle.agreement.specs.Translation.Replies.{Reply, Reply.block, Reply.refusal, Refusal.limitZero, Refusal.oddStart, Refusal.missing, Refusal.notTaken, Refusal.outputShort, numbered, outputAfter}
-use Rattle.agreement.specs.Statement.Machine.{RegisterBytes, Turn, Event, Turned, Turned.skip, Turned.visit, History, History.end, History.then, reply}
+use Rattle.agreement.specs.Translation.Replies.{Reply, numbered, outputAfter}
+use Rattle.agreement.specs.Translation.Replies.Reply.{block, refusal}
+use Rattle.agreement.specs.Translation.Replies.Refusal.{limitZero, oddStart, missing, notTaken, outputShort}
+use Rattle.agreement.specs.Statement.Machine.{RegisterBytes, Turn, Event, Turned, History, reply}
+use Rattle.agreement.specs.Statement.Machine.Turned.{skip, visit}
+use Rattle.agreement.specs.Statement.Machine.History.{end, then}
 use Rattle.agreement.proofs.Theorem.Agreement.{agreement}
 use Rattle.agreement.specs.Statement.Agreement.{Agreement, Agrees}
 use Rattle.block.specs.Answers.{Answers}

@@ -12,7 +12,10 @@ use lib.ListN.{length}
 use lib.Seq.{length-take-le}
 use Rattle.agreement.specs.Common.{greatest, mostSteps}
 use Rattle.agreement.specs.Translation.Walk.{walk}
-use Rattle.agreement.specs.Translation.Replies.{Block, Reply, Reply.block, Reply.refusal, Refusal.limitZero, Refusal.oddStart, Refusal.outputShort, First, First.begins, First.lacks, First.untaken, first, byFirst, blockOf, walked, translate, numbered, outputAfter}
+use Rattle.agreement.specs.Translation.Replies.{Block, Reply, First, first, byFirst, blockOf, walked, translate, numbered, outputAfter}
+use Rattle.agreement.specs.Translation.Replies.Reply.{block, refusal}
+use Rattle.agreement.specs.Translation.Replies.Refusal.{limitZero, oddStart, outputShort}
+use Rattle.agreement.specs.Translation.Replies.First.{begins, lacks, untaken}
 use Rattle.agreement.proofs.Laws.Length.{block-length}
 use Rattle.emitter.proofs.WriteLaws.{parts}
 use Rattle.block.specs.Walks.{Compiles}

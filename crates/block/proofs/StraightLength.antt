@@ -3,7 +3,9 @@ use mathlib.Core.Path.{_≡_}
 use Prim.Native.Nat.{ℕ, _≤_}
 use native.Mathlib.Omega.{arith}
 use lib.ListN.{length}
-use Rattle.agreement.specs.Riscv.Instruction.{Instruction, Instruction.op, Instruction.opImm, Instruction.branch, Instruction.access, Instruction.unmodelled, Instruction.LUI, Instruction.AUIPC, Instruction.JAL, Instruction.JALR, Instruction.FENCE, Instruction.FENCE·I, Instruction.other}
+use Rattle.agreement.specs.Riscv.Instruction.{Instruction}
+use Rattle.agreement.specs.Riscv.Instruction.Instruction.{op, opImm, branch, access, unmodelled, LUI, AUIPC, JAL, JALR, FENCE, FENCE·I}
+use Rattle.agreement.specs.Riscv.Instruction.Instruction.{other}
 use Rattle.agreement.specs.X86.Encode.{bytes}
 use Rattle.agreement.specs.Translation.Decode32.{rd, rs1, rs2, imm32, shamt, shamtW, immU, wrappingAdd}
 use Rattle.agreement.proofs.Laws.Length.{len-op, len-imm, len-const}

@@ -2,7 +2,9 @@
 use mathlib.Core.List.{List}
 use Prim.Native.Nat.{ℕ}
 use lib.ListN.{take}
-use Rattle.agreement.specs.Translation.Replies.{Reply, Reply.block, Reply.refusal, Refusal.limitZero, Refusal.oddStart, Refusal.missing, Refusal.notTaken, Refusal.outputShort}
+use Rattle.agreement.specs.Translation.Replies.{Reply}
+use Rattle.agreement.specs.Translation.Replies.Reply.{block, refusal}
+use Rattle.agreement.specs.Translation.Replies.Refusal.{limitZero, oddStart, missing, notTaken, outputShort}
 use Rattle.block.specs.declared.Answer.{Answer}
 use Rattle.block.specs.declared.Answer.the-variants.{Block, LimitZero, OddStart, Missing, NotTaken, OutputShort}
 

@@ -7,7 +7,9 @@ use native.Mathlib.Nat.{zero-div}
 use native.Mathlib.Omega.{arith}
 use borrow.Author.Tests.{ne-eqb}
 use lib.Dec.{T, eqb, eqb→eq}
-use Rattle.agreement.specs.Riscv.Instruction.{Instruction, Instruction.op, Instruction.opImm, Instruction.branch, Instruction.access, Instruction.unmodelled, Instruction.LUI, Instruction.AUIPC, Instruction.JAL, Instruction.JALR, Instruction.FENCE, Instruction.FENCE·I, Instruction.other}
+use Rattle.agreement.specs.Riscv.Instruction.{Instruction}
+use Rattle.agreement.specs.Riscv.Instruction.Instruction.{op, opImm, branch, access, unmodelled, LUI, AUIPC, JAL, JALR, FENCE, FENCE·I}
+use Rattle.agreement.specs.Riscv.Instruction.Instruction.{other}
 use Rattle.agreement.specs.Riscv.Fields.{funct3, funct7}
 use Rattle.agreement.specs.Translation.Kind.{kind, kindOf, kindNumber}
 use Rattle.agreement.proofs.Laws.Fields.{funct6-in-funct7}

@@ -2,8 +2,14 @@
 -- Translation/Kind). The matches are gone through here once, for every property.
 use mathlib.Core.List.{[], _∷_}
 use Prim.Native.Nat.{ℕ}
-use Rattle.agreement.specs.Riscv.Instruction.{Op, OpImm, Branch, Access, Op.ADD, Op.SUB, Op.MUL, Op.SLL, Op.SLT, Op.SLTU, Op.XOR, Op.SRL, Op.SRA, Op.OR, Op.AND, Op.ADDW, Op.SUBW, Op.MULW, Op.SLLW, Op.SRLW, Op.SRAW, OpImm.ADDI, OpImm.SLTI, OpImm.SLTIU, OpImm.XORI, OpImm.ORI, OpImm.ANDI, OpImm.SLLI, OpImm.SRLI, OpImm.SRAI, OpImm.ADDIW, OpImm.SLLIW, OpImm.SRLIW, OpImm.SRAIW, Branch.BEQ, Branch.BNE, Branch.BLT, Branch.BGE, Branch.BLTU, Branch.BGEU, Access.LB, Access.LH, Access.LW, Access.LD, Access.LBU, Access.LHU, Access.LWU, Access.SB, Access.SH, Access.SW, Access.SD, Instruction, Instruction.op, Instruction.opImm, Instruction.branch, Instruction.access, Instruction.FENCE, Instruction.FENCE·I, Instruction.other}
-use Rattle.agreement.specs.Translation.Kind.{_⇒_, match, kindOp, kindOp32, kindOpImm, kindOpImm32, kindBranch, kindFence, kindLoad, kindStore}
+use Rattle.agreement.specs.Riscv.Instruction.{Op, OpImm, Branch, Access, Instruction}
+use Rattle.agreement.specs.Riscv.Instruction.Op.{ADD, SUB, MUL, SLL, SLT, SLTU, XOR, SRL, SRA, OR, AND, ADDW, SUBW, MULW, SLLW, SRLW, SRAW}
+use Rattle.agreement.specs.Riscv.Instruction.OpImm.{ADDI, SLTI, SLTIU, XORI, ORI, ANDI, SLLI, SRLI, SRAI, ADDIW, SLLIW, SRLIW, SRAIW}
+use Rattle.agreement.specs.Riscv.Instruction.Branch.{BEQ, BNE, BLT, BGE, BLTU, BGEU}
+use Rattle.agreement.specs.Riscv.Instruction.Access.{LB, LH, LW, LD, LBU, LHU, LWU, SB, SH, SW, SD}
+use Rattle.agreement.specs.Riscv.Instruction.Instruction.{op, opImm, branch, access, FENCE, FENCE·I, other}
+use Rattle.agreement.specs.Translation.Kind.{_⇒_, match, kindOp, kindOp32, kindOpImm, kindOpImm32, kindBranch, kindFence, kindLoad}
+use Rattle.agreement.specs.Translation.Kind.{kindStore}
 use Rattle.agreement.proofs.Laws.Matches.{Each, each}
 
 pub each-op : (P : Instruction → Type 0) → ((o : Op) → P (op o)) → P other → (f s : ℕ) → P (kindOp f s)

@@ -8,7 +8,9 @@ use native.Mathlib.Omega.{arith}
 use borrow.Author.Tests.{eq-eqb, ne-eqb}
 use lib.Dec.{eqb}
 use lib.ListN.{length}
-use Rattle.agreement.specs.Riscv.Instruction.{Op, OpImm, Branch, Instruction, Instruction.op, Instruction.opImm, Instruction.branch, Instruction.access, Instruction.unmodelled, Instruction.LUI, Instruction.AUIPC, Instruction.JAL, Instruction.JALR, Instruction.FENCE, Instruction.FENCE·I, Instruction.other}
+use Rattle.agreement.specs.Riscv.Instruction.{Op, OpImm, Branch, Instruction}
+use Rattle.agreement.specs.Riscv.Instruction.Instruction.{op, opImm, branch, access, unmodelled, LUI, AUIPC, JAL, JALR, FENCE, FENCE·I}
+use Rattle.agreement.specs.Riscv.Instruction.Instruction.{other}
 use Rattle.agreement.specs.X86.Form.{Instr}
 use Rattle.agreement.specs.X86.Encode.{bytes}
 use Rattle.agreement.proofs.Host.Straight.{bytes-append}

@@ -9,7 +9,8 @@ use lib.Pow.{mod-mod-pow}
 use Rattle.decode.specs.Decoded.{decoded}
 use Rattle.agreement.specs.Riscv.Fields.{opcode, funct3, rs1, rs2, funct7, funct6, bits, shamt5, shamt6}
 use Rattle.agreement.specs.Riscv.Immediates as Manual
-use Rattle.agreement.specs.Riscv.Instruction.{Op, OpImm, Branch, Instruction, Instruction.op, Instruction.opImm, Instruction.branch, Instruction.other}
+use Rattle.agreement.specs.Riscv.Instruction.{Op, OpImm, Branch, Instruction}
+use Rattle.agreement.specs.Riscv.Instruction.Instruction.{op, opImm, branch, other}
 use Rattle.agreement.specs.Translation.Emit.{leftover}
 use Rattle.agreement.specs.Translation.Kind.{match, kind, kindOf}
 use Rattle.agreement.specs.Translation.Decode32.{wrappingAdd}
@@ -17,7 +18,8 @@ use Rattle.agreement.specs.Translation.Decode32 as Decode32
 use Rattle.agreement.proofs.Laws.Fields.{opcode-is, funct6-of, rd-is, rs1-is, rs2-is, shamt5-is, shamt6-is}
 use Rattle.agreement.proofs.Laws.Immediates.{immI-is, immB-is, immU-is, immJ-is}
 use Rattle.agreement.proofs.Laws.Matches.{decide, kind-is}
-use Rattle.words.proofs.FamilyMatches.{each-op, each-op-32, each-op-imm, each-op-imm-32, each-branch, each-fence, each-load, each-store}
+use Rattle.words.proofs.FamilyMatches.{each-op, each-op-32, each-op-imm, each-op-imm-32, each-branch, each-fence, each-load}
+use Rattle.words.proofs.FamilyMatches.{each-store}
 use Rattle.words.specs.Word.{Small, wordAs, wordBy, notEmitted, opWord, opImmWord, branchWord, fenceWord}
 
 -- OP and OP-32

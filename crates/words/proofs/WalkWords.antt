@@ -3,7 +3,9 @@
 use mathlib.Core.Path.{_≡_, refl}
 use mathlib.Core.List.{List}
 use Prim.Native.Nat.{ℕ}
-use Rattle.agreement.specs.Riscv.Instruction.{Instruction, Instruction.op, Instruction.opImm, Instruction.branch, Instruction.access, Instruction.unmodelled, Instruction.LUI, Instruction.AUIPC, Instruction.JAL, Instruction.JALR, Instruction.FENCE, Instruction.FENCE·I, Instruction.other}
+use Rattle.agreement.specs.Riscv.Instruction.{Instruction}
+use Rattle.agreement.specs.Riscv.Instruction.Instruction.{op, opImm, branch, access, unmodelled, LUI, AUIPC, JAL, JALR, FENCE, FENCE·I}
+use Rattle.agreement.specs.Riscv.Instruction.Instruction.{other}
 use Rattle.agreement.specs.X86.Form.{Instr}
 use Rattle.agreement.specs.Translation.Walk.{Walked, End, emit, before, jumps}
 use Rattle.words.specs.Word.{wordAs, endAt}

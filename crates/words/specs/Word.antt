@@ -6,11 +6,16 @@ use mathlib.Core.Bool.{cond}
 use Prim.Native.Nat.{ℕ, _-_, _*_, _/_, _%_, _^_, _<_}
 use lib.Dec.{eqb}
 use Rattle.agreement.specs.Common.{Helper.forHalfword, Helper.forAccess}
-use Rattle.agreement.specs.Riscv.Instruction.{Op, OpImm, Branch, Instruction, Instruction.op, Instruction.opImm, Instruction.branch, Instruction.access, Instruction.unmodelled, Instruction.LUI, Instruction.AUIPC, Instruction.JAL, Instruction.JALR, Instruction.FENCE, Instruction.FENCE·I, Instruction.other}
-use Rattle.agreement.specs.X86.Form.{RAX, RCX, RDX, RBX, RBP, RSI, RDI, R8, R9, R10, R11, R12, R13, R14, R15, Cc, Alu.add, Alu.and, Instr, Instr.push, Instr.pop, Instr.mov, Instr.movImm64, Instr.store, Instr.aluImm32, Instr.cmov}
+use Rattle.agreement.specs.Riscv.Instruction.{Op, OpImm, Branch, Instruction}
+use Rattle.agreement.specs.Riscv.Instruction.Instruction.{op, opImm, branch, access, unmodelled, LUI, AUIPC, JAL, JALR, FENCE, FENCE·I}
+use Rattle.agreement.specs.Riscv.Instruction.Instruction.{other}
+use Rattle.agreement.specs.X86.Form.{RAX, RCX, RDX, RBX, RBP, RSI, RDI, R8, R9, R10, R11, R12, R13, R14, R15, Cc, Instr}
+use Rattle.agreement.specs.X86.Form.Alu.{add, and}
+use Rattle.agreement.specs.X86.Form.Instr.{push, pop, mov, movImm64, store, aluImm32, cmov}
 use Rattle.agreement.specs.X86.Encode.{bytes}
 use Rattle.agreement.specs.Translation.Decode32.{opcode, rd, rs1, rs2, imm32, shamt, shamtW, immU, immB, immJ, wrappingAdd}
-use Rattle.agreement.specs.Translation.Emit.{bodyOp, bodyOpImm, codeOp, codeOpImm, codeConst, codeJal, codeJalr, codeBranch, ccFor, compare, loadReg, storeReg, leftover}
+use Rattle.agreement.specs.Translation.Emit.{bodyOp, bodyOpImm, codeOp, codeOpImm, codeConst, codeJal, codeJalr, codeBranch, ccFor, compare}
+use Rattle.agreement.specs.Translation.Emit.{loadReg, storeReg, leftover}
 use Rattle.agreement.specs.Translation.Walk.{End, End.calls, ending}
 use Rattle.agreement.specs.Translation.Kind.{kindNumber, kindOp, kindOp32, kindOpImm, kindOpImm32, kindBranch, kindFence}
 use Rattle.agreement.specs.Riscv.Immediates as Manual

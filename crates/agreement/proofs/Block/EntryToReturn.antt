@@ -16,8 +16,9 @@ use Rattle.agreement.specs.Translation.Walk.{End, End.calls, End.goesOn,
 use Rattle.agreement.specs.X86.Encode.{bytes, encode}
 use Rattle.agreement.specs.X86.Execute.{exec}
 use Rattle.agreement.specs.X86.Flags.{aluValue, sext}
-use Rattle.agreement.specs.X86.Form.{Alu.add, Instr, Instr.aluImm32, Instr.callRax, Instr.movImm64, Instr.ret}
-use Rattle.agreement.specs.X86.Form.{Ok, R12, R13, R14, R8, RAX, RBX, RCX, RDI, RDX, RSI, RSP}
+use Rattle.agreement.specs.X86.Form.{Instr, Ok, R12, R13, R14, R8, RAX, RBX, RCX, RDI, RDX, RSI, RSP}
+use Rattle.agreement.specs.X86.Form.Alu.{add}
+use Rattle.agreement.specs.X86.Form.Instr.{aluImm32, callRax, movImm64, ret}
 use Rattle.agreement.specs.X86.Memory.{at, read}
 use Rattle.agreement.specs.X86.State.{Flags, Permissions, State}
 use Rattle.agreement.specs.X86.Step.{next, past, step, steps}

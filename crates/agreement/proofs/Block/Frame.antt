@@ -11,8 +11,9 @@ use lib.Dec.{leb}
 use Rattle.agreement.specs.Translation.Emit.{closing, opening}
 use Rattle.agreement.specs.X86.Execute.{accesses, exec}
 use Rattle.agreement.specs.X86.Flags.{aluValue, sext}
-use Rattle.agreement.specs.X86.Form.{Alu.add, Alu.sub, Instr, Instr.aluImm8, Instr.mov, Instr.push}
-use Rattle.agreement.specs.X86.Form.{R12, R13, R14, R15, R8, R9, RAX, RBP, RBX, RCX, RDI, RDX, RSI, RSP}
+use Rattle.agreement.specs.X86.Form.{Instr, R12, R13, R14, R15, R8, R9, RAX, RBP, RBX, RCX, RDI, RDX, RSI, RSP}
+use Rattle.agreement.specs.X86.Form.Alu.{add, sub}
+use Rattle.agreement.specs.X86.Form.Instr.{aluImm8, mov, push}
 use Rattle.agreement.specs.X86.Memory.{Memory, at, read, span, write}
 use Rattle.agreement.specs.X86.State.{Flags, Permissions, State}
 use Rattle.agreement.specs.X86.Step.{all, past}

@@ -7,8 +7,8 @@ use native.Mathlib.Omega.{arith}
 use lib.Dec.{eqb}
 use Rattle.agreement.specs.Common.{Helper.forAccess, Helper.forHalfword}
 use Rattle.agreement.specs.Riscv.Instruction.{branches, find, findIn, threeIs, topIs, valueOpImm}
-use Rattle.agreement.specs.Riscv.Run.{GuestState, Registers, Stop.called, Stop.plain}
-use Rattle.agreement.specs.Riscv.Run.{does, firstRefused, isLong, isNotTaken, reading, refused, taken, writeX}
+use Rattle.agreement.specs.Riscv.Run.{GuestState, Registers, does, firstRefused, isLong, isNotTaken, reading, refused, taken, writeX}
+use Rattle.agreement.specs.Riscv.Run.Stop.{called, plain}
 use Rattle.agreement.specs.Riscv.Immediates as Manual
 use Rattle.agreement.specs.Statement.Agreement.{feedOf, isRefused, start}
 use Rattle.agreement.specs.X86.Memory.{read, write}

@@ -8,11 +8,13 @@ use lib.Dec.{eqb}
 use Rattle.agreement.specs.X86.Execute.{exec}
 use Rattle.agreement.specs.X86.Flags.{addFlags, aluFlags, evenOnes, holds, imulFlags, logicFlags, ones, sext, shiftFlags}
 use Rattle.agreement.specs.X86.Flags.{shiftOverflow, shifted, shiftedOut, subFlags}
-use Rattle.agreement.specs.X86.Form.{Alu.add, Alu.and, Alu.cmp, Alu.or, Alu.sub, Alu.xor, Cc.AE, Cc.B, Instr}
-use Rattle.agreement.specs.X86.Form.{Instr.alu, Instr.aluImm32, Instr.aluImm8, Instr.callRax, Instr.cmov, Instr.imul, Instr.load}
-use Rattle.agreement.specs.X86.Form.{Instr.mov, Instr.movImm64, Instr.movsxd, Instr.movzx, Instr.pop, Instr.push, Instr.ret}
-use Rattle.agreement.specs.X86.Form.{Instr.setccAl, Instr.shiftCl, Instr.shiftImm8, Instr.store, R10, R11, R12, RAX, RBX}
-use Rattle.agreement.specs.X86.Form.{Shift.sar, Shift.shl, Shift.shr, Width.r32, Width.r64}
+use Rattle.agreement.specs.X86.Form.{Instr, R10, R11, R12, RAX, RBX}
+use Rattle.agreement.specs.X86.Form.Alu.{add, and, cmp, or, sub, xor}
+use Rattle.agreement.specs.X86.Form.Cc.{AE, B}
+use Rattle.agreement.specs.X86.Form.Instr.{alu, aluImm32, aluImm8, callRax, cmov, imul, load, mov, movImm64, movsxd, movzx, pop, push}
+use Rattle.agreement.specs.X86.Form.Instr.{ret, setccAl, shiftCl, shiftImm8, store}
+use Rattle.agreement.specs.X86.Form.Shift.{sar, shl, shr}
+use Rattle.agreement.specs.X86.Form.Width.{r32, r64}
 use Rattle.agreement.specs.X86.Memory.{nth}
 use Rattle.agreement.specs.X86.State.{Flags, State}
 use Rattle.agreement.proofs.Checks.Flags.{number, off, on}

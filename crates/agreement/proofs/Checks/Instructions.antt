@@ -9,10 +9,13 @@ use Rattle.agreement.proofs.Checks.Cases.{equal}
 use Rattle.agreement.specs.X86.Encode.{encode}
 use Rattle.agreement.specs.X86.Execute.{exec}
 use Rattle.agreement.specs.X86.Flags.{aluValue, holds, sext, shifted}
-use Rattle.agreement.specs.X86.Form.{Alu.add, Alu.and, Alu.cmp, Alu.or, Alu.sub, Alu.xor, Cc.AE, Cc.B, Instr}
-use Rattle.agreement.specs.X86.Form.{Instr.alu, Instr.aluImm32, Instr.aluImm8, Instr.cmov, Instr.imul, Instr.load, Instr.movsxd}
-use Rattle.agreement.specs.X86.Form.{Instr.movzx, Instr.pop, Instr.setccAl, Instr.shiftCl, Instr.shiftImm8, Instr.store}
-use Rattle.agreement.specs.X86.Form.{R10, R11, R12, RAX, RBX, RSP, Shift.sar, Shift.shl, Shift.shr, Width.r32, Width.r64}
+use Rattle.agreement.specs.X86.Form.{Instr, R10, R11, R12, RAX, RBX, RSP}
+use Rattle.agreement.specs.X86.Form.Alu.{add, and, cmp, or, sub, xor}
+use Rattle.agreement.specs.X86.Form.Cc.{AE, B}
+use Rattle.agreement.specs.X86.Form.Instr.{alu, aluImm32, aluImm8, cmov, imul, load, movsxd, movzx, pop, setccAl, shiftCl, shiftImm8}
+use Rattle.agreement.specs.X86.Form.Instr.{store}
+use Rattle.agreement.specs.X86.Form.Shift.{sar, shl, shr}
+use Rattle.agreement.specs.X86.Form.Width.{r32, r64}
 use Rattle.agreement.specs.X86.Memory.{nth, read}
 use Rattle.agreement.specs.X86.State.{Flags, State}
 

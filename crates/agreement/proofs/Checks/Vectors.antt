@@ -5,8 +5,9 @@ use mathlib.Core.List.{List, [], _∷_, _++_}
 use Prim.Native.Nat.{ℕ, _-_, _^_}
 use lib.ListN.{length}
 use Rattle.agreement.specs.Translation.Replies.{Reply, translate}
-use Rattle.agreement.proofs.Checks.Cases.{Format.I, Format.S, Format.B, Format.U, Format.J, Case.immediate}
 use Rattle.agreement.proofs.Checks.Cases.{isReply, holds, dump, framed, copies, words}
+use Rattle.agreement.proofs.Checks.Cases.Format.{I, S, B, U, J}
+use Rattle.agreement.proofs.Checks.Cases.Case.{immediate}
 use Rattle.agreement.proofs.Checks.CasesHold.{immediates, translations, tests}
 
 -- a word translated alone at 0x80000000, with its n bytes: it goes on, it ends the block, it ends in a helper's call;

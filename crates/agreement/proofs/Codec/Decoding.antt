@@ -9,16 +9,17 @@ use native.Mathlib.Nat.{pow-suc, pow-zero}
 use native.Mathlib.Omega.{arith}
 use lib.Dec.{eqb}
 use Rattle.agreement.specs.Riscv.Run.{Stop.plain}
-use Rattle.agreement.specs.X86.Decode.{Answer, Operand, Operand.mem, Operand.reg}
-use Rattle.agreement.specs.X86.Decode.{aluOf, ccOf, decode, imm, loaded, memory, modrm, moved, onReg, only, opcode0F, opcode1, pick}
-use Rattle.agreement.specs.X86.Decode.{shiftOf, sib, widthOf}
+use Rattle.agreement.specs.X86.Decode.{Answer, Operand, aluOf, ccOf, decode, imm, loaded, memory, modrm, moved, onReg, only, opcode0F}
+use Rattle.agreement.specs.X86.Decode.{opcode1, pick, shiftOf, sib, widthOf}
+use Rattle.agreement.specs.X86.Decode.Operand.{mem, reg}
 use Rattle.agreement.specs.X86.Encode.{ccNumber, digit, encode, modMem, modReg, rex, shiftDigit}
-use Rattle.agreement.specs.X86.Form.{Alu, Alu.add, Alu.and, Alu.cmp, Alu.or, Alu.sub, Alu.xor, Cc}
-use Rattle.agreement.specs.X86.Form.{Cc.AE, Cc.B, Cc.E, Cc.GE, Cc.L, Cc.NE, Instr}
-use Rattle.agreement.specs.X86.Form.{Instr.alu, Instr.aluImm32, Instr.aluImm8, Instr.callRax, Instr.cmov, Instr.imul, Instr.load}
-use Rattle.agreement.specs.X86.Form.{Instr.mov, Instr.movImm64, Instr.movsxd, Instr.movzx, Instr.pop, Instr.push, Instr.ret}
-use Rattle.agreement.specs.X86.Form.{Instr.setccAl, Instr.shiftCl, Instr.shiftImm8, Instr.store, Ok, Shift}
-use Rattle.agreement.specs.X86.Form.{Shift.sar, Shift.shl, Shift.shr, Width, Width.r32, Width.r64}
+use Rattle.agreement.specs.X86.Form.{Alu, Cc, Instr, Ok, Shift, Width}
+use Rattle.agreement.specs.X86.Form.Alu.{add, and, cmp, or, sub, xor}
+use Rattle.agreement.specs.X86.Form.Cc.{AE, B, E, GE, L, NE}
+use Rattle.agreement.specs.X86.Form.Instr.{alu, aluImm32, aluImm8, callRax, cmov, imul, load, mov, movImm64, movsxd, movzx, pop, push}
+use Rattle.agreement.specs.X86.Form.Instr.{ret, setccAl, shiftCl, shiftImm8, store}
+use Rattle.agreement.specs.X86.Form.Shift.{sar, shl, shr}
+use Rattle.agreement.specs.X86.Form.Width.{r32, r64}
 use Rattle.agreement.specs.X86.Memory.{at, bytesOf}
 use Rattle.agreement.proofs.Laws.Tests.{eqb-no, eqb-yes}
 

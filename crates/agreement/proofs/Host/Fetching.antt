@@ -9,10 +9,10 @@ use lib.Dec.{eqb}
 use lib.ListN.{length, length-append}
 use Rattle.agreement.specs.X86.Encode.{encode, modMem, rex}
 use Rattle.agreement.specs.X86.Execute.{accesses, exec}
-use Rattle.agreement.specs.X86.Form.{Instr}
-use Rattle.agreement.specs.X86.Form.{Instr.alu, Instr.aluImm32, Instr.aluImm8, Instr.callRax, Instr.cmov, Instr.imul, Instr.load}
-use Rattle.agreement.specs.X86.Form.{Instr.mov, Instr.movImm64, Instr.movsxd, Instr.movzx, Instr.pop, Instr.push, Instr.ret}
-use Rattle.agreement.specs.X86.Form.{Instr.setccAl, Instr.shiftCl, Instr.shiftImm8, Instr.store, Ok, Width, Width.r32, Width.r64}
+use Rattle.agreement.specs.X86.Form.{Instr, Ok, Width}
+use Rattle.agreement.specs.X86.Form.Instr.{alu, aluImm32, aluImm8, callRax, cmov, imul, load, mov, movImm64, movsxd, movzx, pop, push}
+use Rattle.agreement.specs.X86.Form.Instr.{ret, setccAl, shiftCl, shiftImm8, store}
+use Rattle.agreement.specs.X86.Form.Width.{r32, r64}
 use Rattle.agreement.specs.X86.Memory.{Memory, at, bytesOf, up}
 use Rattle.agreement.specs.X86.State.{Flags, Permissions, State}
 use Rattle.agreement.specs.X86.Step.{Fetch, all, cut, did, fetched, next, past, step}

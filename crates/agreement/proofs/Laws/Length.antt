@@ -10,27 +10,27 @@ use lib.ListN.{length, length-append}
 use Rattle.agreement.specs.Common.{Helper, Helper.forAccess, Helper.forHalfword, greatest, mostSteps}
 use Rattle.agreement.specs.Laws.{Lengths}
 use Rattle.agreement.specs.Riscv.Fields.{plus}
-use Rattle.agreement.specs.Riscv.Instruction.{Branch, Instruction}
-use Rattle.agreement.specs.Riscv.Instruction.{Instruction.AUIPC, Instruction.FENCE, Instruction.FENCE·I, Instruction.JAL}
-use Rattle.agreement.specs.Riscv.Instruction.{Instruction.JALR, Instruction.LUI, Instruction.access, Instruction.branch}
-use Rattle.agreement.specs.Riscv.Instruction.{Instruction.op, Instruction.opImm, Instruction.other, Instruction.unmodelled, Op}
-use Rattle.agreement.specs.Riscv.Instruction.{Op.ADD, Op.ADDW, Op.AND, Op.MUL, Op.MULW, Op.OR, Op.SLL, Op.SLLW, Op.SLT, Op.SLTU}
-use Rattle.agreement.specs.Riscv.Instruction.{Op.SRA, Op.SRAW, Op.SRL, Op.SRLW, Op.SUB, Op.SUBW, Op.XOR, OpImm}
-use Rattle.agreement.specs.Riscv.Instruction.{OpImm.ADDI, OpImm.ADDIW, OpImm.ANDI, OpImm.ORI, OpImm.SLLI, OpImm.SLLIW, OpImm.SLTI}
-use Rattle.agreement.specs.Riscv.Instruction.{OpImm.SLTIU, OpImm.SRAI, OpImm.SRAIW, OpImm.SRLI, OpImm.SRLIW, OpImm.XORI}
+use Rattle.agreement.specs.Riscv.Instruction.{Branch, Instruction, Op, OpImm}
+use Rattle.agreement.specs.Riscv.Instruction.Instruction.{AUIPC, FENCE, FENCE·I, JAL, JALR, LUI, access, branch, op, opImm, other}
+use Rattle.agreement.specs.Riscv.Instruction.Instruction.{unmodelled}
+use Rattle.agreement.specs.Riscv.Instruction.Op.{ADD, ADDW, AND, MUL, MULW, OR, SLL, SLLW, SLT, SLTU, SRA, SRAW, SRL, SRLW, SUB, SUBW}
+use Rattle.agreement.specs.Riscv.Instruction.Op.{XOR}
+use Rattle.agreement.specs.Riscv.Instruction.OpImm.{ADDI, ADDIW, ANDI, ORI, SLLI, SLLIW, SLTI, SLTIU, SRAI, SRAIW, SRLI, SRLIW, XORI}
 use Rattle.agreement.specs.Translation.Emit.{bodyOp, bodyOpImm, closing, codeBranch, codeConst, codeJal, codeJalr, codeOp, codeOpImm}
 use Rattle.agreement.specs.Translation.Emit.{compare, leftover, loadReg, opening, passes, storeReg}
 use Rattle.agreement.specs.Translation.Kind.{kind}
-use Rattle.agreement.specs.Translation.Replies.{Block, First, First.begins, First.lacks, First.untaken, Refusal}
-use Rattle.agreement.specs.Translation.Replies.{Refusal.limitZero, Refusal.oddStart, Refusal.outputShort, Reply}
-use Rattle.agreement.specs.Translation.Replies.{Reply.block, Reply.refusal, blockOf, byFirst, first, translate, walked}
-use Rattle.agreement.specs.Translation.Walk.{End, End.calls, End.goesOn, End.jumped}
-use Rattle.agreement.specs.Translation.Walk.{Walked, before, emit, ending, helperAt, helps, instrs, jumps, notTakenAt, stopsAt, walk}
+use Rattle.agreement.specs.Translation.Replies.{Block, First, Refusal, Reply, blockOf, byFirst, first, translate, walked}
+use Rattle.agreement.specs.Translation.Replies.First.{begins, lacks, untaken}
+use Rattle.agreement.specs.Translation.Replies.Refusal.{limitZero, oddStart, outputShort}
+use Rattle.agreement.specs.Translation.Replies.Reply.{block, refusal}
+use Rattle.agreement.specs.Translation.Walk.{End, Walked, before, emit, ending, helperAt, helps, instrs, jumps, notTakenAt, stopsAt}
+use Rattle.agreement.specs.Translation.Walk.{walk}
+use Rattle.agreement.specs.Translation.Walk.End.{calls, goesOn, jumped}
 use Rattle.agreement.specs.Statement.Agreement.{start}
 use Rattle.agreement.specs.X86.Encode.{bytes}
-use Rattle.agreement.specs.X86.Form.{Alu.add, Alu.and, Instr}
-use Rattle.agreement.specs.X86.Form.{Instr.aluImm32, Instr.callRax, Instr.mov, Instr.movImm64, Instr.ret, Instr.store}
-use Rattle.agreement.specs.X86.Form.{R10, R11, RAX, RBX, RDX}
+use Rattle.agreement.specs.X86.Form.{Instr, R10, R11, RAX, RBX, RDX}
+use Rattle.agreement.specs.X86.Form.Alu.{add, and}
+use Rattle.agreement.specs.X86.Form.Instr.{aluImm32, callRax, mov, movImm64, ret, store}
 use Rattle.agreement.proofs.Host.Straight.{bytes-append}
 use Rattle.agreement.proofs.Laws.Leftover.{leftover-by}
 use Rattle.agreement.specs.Translation.Decode32 as Decode32

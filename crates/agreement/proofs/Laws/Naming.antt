@@ -10,9 +10,11 @@ use native.Mathlib.Omega.{arith}
 use lib.Dec.{eqb, eqb→eq}
 use Rattle.agreement.specs.Laws.{NamesAlike, TakenAlike}
 use Rattle.agreement.specs.Riscv.Fields.{funct3, funct6, funct7, opcode}
-use Rattle.agreement.specs.Riscv.Instruction.{Instruction, Instruction.JALR, Instruction.other, Row, Three.anyThree, Top.anyTop}
-use Rattle.agreement.specs.Riscv.Instruction.{accessRows, branchRows, environmentRows, find, findIn, listing, named, opImmRows}
-use Rattle.agreement.specs.Riscv.Instruction.{opMRows, opRows, row, singleRows, threeIs, topIs}
+use Rattle.agreement.specs.Riscv.Instruction.{Instruction, Row, accessRows, branchRows, environmentRows, find, findIn, listing, named}
+use Rattle.agreement.specs.Riscv.Instruction.{opImmRows, opMRows, opRows, row, singleRows, threeIs, topIs}
+use Rattle.agreement.specs.Riscv.Instruction.Instruction.{JALR, other}
+use Rattle.agreement.specs.Riscv.Instruction.Three.{anyThree}
+use Rattle.agreement.specs.Riscv.Instruction.Top.{anyTop}
 use Rattle.agreement.specs.Riscv.Run.{chosen, chosenRows, reservedRows, taken}
 use Rattle.agreement.specs.Translation.Kind.{Arm, kind, kindBranch, kindFence, kindLoad, kindOf, kindOp, kindOp32, kindOpImm}
 use Rattle.agreement.specs.Translation.Kind.{kindOpImm32, kindStore, match}

@@ -9,16 +9,16 @@ use lib.Bits.{bitAnd}
 use lib.Dec.{eqb}
 use Rattle.agreement.specs.Common.{mostSteps}
 use Rattle.agreement.specs.Riscv.Instruction.{Instruction}
-use Rattle.agreement.specs.Riscv.Instruction.{Instruction.op, Instruction.opImm, Instruction.branch, Instruction.access}
-use Rattle.agreement.specs.Riscv.Instruction.{Instruction.unmodelled, Instruction.LUI, Instruction.AUIPC, Instruction.JAL}
-use Rattle.agreement.specs.Riscv.Instruction.{Instruction.JALR, Instruction.FENCE, Instruction.FENCE·I, Instruction.other}
+use Rattle.agreement.specs.Riscv.Instruction.Instruction.{op, opImm, branch, access, unmodelled, LUI, AUIPC, JAL, JALR, FENCE}
+use Rattle.agreement.specs.Riscv.Instruction.Instruction.{FENCE·I, other}
 use Rattle.agreement.specs.Translation.Decode32.{wordOf, rd, rs1, rs2, imm32, shamt, shamtW, immU, wrappingAdd}
 use Rattle.agreement.specs.Translation.Kind.{kind, kindNumber}
 use Rattle.agreement.specs.Translation.Needed.{needed}
 use Rattle.agreement.specs.Translation.Emit.{codeOp, codeOpImm, codeConst}
 use Rattle.agreement.specs.Translation.Walk.{Walked, walk, emit}
-use Rattle.agreement.specs.Translation.Replies.{First, Reply, Reply.refusal, Refusal.limitZero, Refusal.oddStart}
-use Rattle.agreement.specs.Translation.Replies.{first, byFirst, blockOf, translate}
+use Rattle.agreement.specs.Translation.Replies.{First, Reply, first, byFirst, blockOf, translate}
+use Rattle.agreement.specs.Translation.Replies.Reply.{refusal}
+use Rattle.agreement.specs.Translation.Replies.Refusal.{limitZero, oddStart}
 use Rattle.agreement.specs.Laws.{KindsWalk, WalksBy, NeedsNoMore}
 use Rattle.agreement.proofs.Laws.Matches.{decide}
 

@@ -9,8 +9,10 @@ use lib.Pow.{low}
 use Rattle.agreement.specs.Riscv.Run.{GuestState, manual, turn}
 use Rattle.agreement.specs.Translation.Replies.{Block, Refusal, Reply.block, Reply.refusal}
 use Rattle.agreement.specs.Statement.Agreement.{Agreement, Along, At, feed, feedOf, feeds, isRefused, leftBy, start}
-use Rattle.agreement.specs.Statement.Machine.{Event, Event.rejected, Event.visited, History, History.end, History.then}
-use Rattle.agreement.specs.Statement.Machine.{RegisterBytes, Turn, Turned, Turned.skip, Turned.visit, bytesAfter, reply, since}
+use Rattle.agreement.specs.Statement.Machine.{Event, History, RegisterBytes, Turn, Turned, bytesAfter, reply, since}
+use Rattle.agreement.specs.Statement.Machine.Event.{rejected, visited}
+use Rattle.agreement.specs.Statement.Machine.History.{end, then}
+use Rattle.agreement.specs.Statement.Machine.Turned.{skip, visit}
 use Rattle.agreement.specs.Statement.Premises.{Enterable, Premises, Typed}
 use Rattle.agreement.specs.X86.Decode.{only}
 use Rattle.agreement.specs.X86.Form.{RAX}

@@ -9,8 +9,10 @@ use Rattle.agreement.specs.Common.{Helper}
 use Rattle.agreement.specs.Riscv.Run.{Feed, GuestState, Left, Read, Stop.called, Stop.plain, readTurn, turn}
 use Rattle.agreement.specs.Translation.Replies.{Block, Reply.block}
 use Rattle.agreement.specs.Statement.Agreement.{At, Entered, Helped, Plain, Returns, feed, feedOf, isRefused, leftBy}
-use Rattle.agreement.specs.Statement.Machine.{Call, Event, Event.rejected, Event.visited, RegisterBytes, Turn, Turned}
-use Rattle.agreement.specs.Statement.Machine.{Turned.skip, Turned.visit, Visit, Went, Went.helped, Went.plainly, enter, reply}
+use Rattle.agreement.specs.Statement.Machine.{Call, Event, RegisterBytes, Turn, Turned, Visit, Went, enter, reply}
+use Rattle.agreement.specs.Statement.Machine.Event.{rejected, visited}
+use Rattle.agreement.specs.Statement.Machine.Turned.{skip, visit}
+use Rattle.agreement.specs.Statement.Machine.Went.{helped, plainly}
 use Rattle.agreement.specs.X86.Form.{RAX, RDX}
 use Rattle.agreement.specs.X86.Memory.{read}
 use Rattle.agreement.specs.X86.State.{State}

@@ -6,8 +6,10 @@ use mathlib.Core.Path.{_∙_, _≡_, ap, refl, subst, sym}
 use Prim.Native.Nat.{suc, ℕ}
 use native.Mathlib.Omega.{arith}
 use Rattle.agreement.specs.Translation.Replies.{Block, Refusal, Reply.block, Reply.refusal}
-use Rattle.agreement.specs.Statement.Machine.{By, Event, History, History.end, History.then, RegisterBytes, Turn, Turned}
-use Rattle.agreement.specs.Statement.Machine.{Turned.skip, Turned.visit, Visit, Went, Went.helped, Went.plainly, enter}
+use Rattle.agreement.specs.Statement.Machine.{By, Event, History, RegisterBytes, Turn, Turned, Visit, Went, enter}
+use Rattle.agreement.specs.Statement.Machine.History.{end, then}
+use Rattle.agreement.specs.Statement.Machine.Turned.{skip, visit}
+use Rattle.agreement.specs.Statement.Machine.Went.{helped, plainly}
 use Rattle.agreement.specs.X86.Form.{Instr, Instr.callRax, Instr.ret}
 use Rattle.agreement.specs.X86.Memory.{at}
 use Rattle.agreement.specs.X86.State.{Flags, Permissions, State}

@@ -9,13 +9,12 @@ use native.Mathlib.Omega.{arith}
 use lib.Dec.{eqb}
 use Rattle.agreement.specs.Common.{Helper, Helper.forHalfword}
 use Rattle.agreement.specs.Riscv.Fields.{plus, rd, rs1, rs2}
-use Rattle.agreement.specs.Riscv.Instruction.{Instruction}
-use Rattle.agreement.specs.Riscv.Instruction.{Instruction.AUIPC, Instruction.FENCE, Instruction.FENCE·I, Instruction.JAL}
-use Rattle.agreement.specs.Riscv.Instruction.{Instruction.JALR, Instruction.LUI, Instruction.access, Instruction.branch}
-use Rattle.agreement.specs.Riscv.Instruction.{Instruction.op, Instruction.opImm, Instruction.other, Instruction.unmodelled, branches}
-use Rattle.agreement.specs.Riscv.Run.{Feed, GuestState, Left, Read, Registers, Stop.called, Stop.plain}
-use Rattle.agreement.specs.Riscv.Run.{does, halt, help, isLong, oneMore, readTurn, reading, refused, resume, settle, taken, turn}
-use Rattle.agreement.specs.Riscv.Run.{wordOf, writeX}
+use Rattle.agreement.specs.Riscv.Instruction.{Instruction, branches}
+use Rattle.agreement.specs.Riscv.Instruction.Instruction.{AUIPC, FENCE, FENCE·I, JAL, JALR, LUI, access, branch, op, opImm, other}
+use Rattle.agreement.specs.Riscv.Instruction.Instruction.{unmodelled}
+use Rattle.agreement.specs.Riscv.Run.{Feed, GuestState, Left, Read, Registers, does, halt, help, isLong, oneMore, readTurn, reading}
+use Rattle.agreement.specs.Riscv.Run.{refused, resume, settle, taken, turn, wordOf, writeX}
+use Rattle.agreement.specs.Riscv.Run.Stop.{called, plain}
 use Rattle.agreement.proofs.Laws.Tests.{eqb-no, eqb-yes}
 use Rattle.agreement.specs.Riscv.Immediates as Manual
 

@@ -12,10 +12,11 @@ use lib.ListN.{length}
 use Rattle.agreement.specs.Statement.Machine.{RegisterBytes}
 use Rattle.agreement.specs.X86.Decode.{Bytes}
 use Rattle.agreement.specs.X86.Encode.{bytes, ccNumber, encode, modMem, modReg, rex, shiftDigit}
-use Rattle.agreement.specs.X86.Form.{Cc, Cc.AE, Cc.B, Cc.E, Cc.GE, Cc.L, Cc.NE, Instr}
-use Rattle.agreement.specs.X86.Form.{Instr.alu, Instr.aluImm32, Instr.aluImm8, Instr.callRax, Instr.cmov, Instr.imul, Instr.load}
-use Rattle.agreement.specs.X86.Form.{Instr.mov, Instr.movImm64, Instr.movsxd, Instr.movzx, Instr.pop, Instr.push, Instr.ret}
-use Rattle.agreement.specs.X86.Form.{Instr.setccAl, Instr.shiftCl, Instr.shiftImm8, Instr.store, Ok, Width, Width.r32, Width.r64}
+use Rattle.agreement.specs.X86.Form.{Cc, Instr, Ok, Width}
+use Rattle.agreement.specs.X86.Form.Cc.{AE, B, E, GE, L, NE}
+use Rattle.agreement.specs.X86.Form.Instr.{alu, aluImm32, aluImm8, callRax, cmov, imul, load, mov, movImm64, movsxd, movzx, pop, push}
+use Rattle.agreement.specs.X86.Form.Instr.{ret, setccAl, shiftCl, shiftImm8, store}
+use Rattle.agreement.specs.X86.Form.Width.{r32, r64}
 use Rattle.agreement.specs.X86.Memory.{Memory, at, bytesOf, nth, overlay, read, up}
 use Rattle.agreement.proofs.Codec.Decoding.{digit-lt}
 use Rattle.agreement.proofs.Host.Fetching.{Holds}

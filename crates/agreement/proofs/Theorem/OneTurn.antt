@@ -11,12 +11,13 @@ use Rattle.agreement.specs.Common.{Helper, Helper.forAccess, Helper.forH
 use Rattle.agreement.specs.Riscv.Run.{Feed, GuestState, Left, Read, Registers, Stop.called, Stop.plain, does, readTurn, reading, turn}
 use Rattle.agreement.specs.Translation.Emit.{addCount, closing, opening, passes}
 use Rattle.agreement.specs.Translation.Replies.{Block, Reply.block, blockOf, walked}
-use Rattle.agreement.specs.Translation.Walk.{End, End.calls, End.goesOn, End.jumped}
-use Rattle.agreement.specs.Translation.Walk.{Walked, before, counted, ending, helperAt, instrs}
+use Rattle.agreement.specs.Translation.Walk.{End, Walked, before, counted, ending, helperAt, instrs}
+use Rattle.agreement.specs.Translation.Walk.End.{calls, goesOn, jumped}
 use Rattle.agreement.specs.Statement.Agreement.{At, Entered, Returns, feed, feedOf, helperOf, inReturn, inSaved, inSlots, isRefused}
 use Rattle.agreement.specs.Statement.Agreement.{leftBy, own}
-use Rattle.agreement.specs.Statement.Machine.{By, Call, Event.visited, RegisterBytes, Steps, Turn, Visit, Went}
-use Rattle.agreement.specs.Statement.Machine.{Went.helped, Went.plainly, bytesAfter, enter, plusRdx, reply}
+use Rattle.agreement.specs.Statement.Machine.{By, Call, RegisterBytes, Steps, Turn, Visit, Went, bytesAfter, enter, plusRdx, reply}
+use Rattle.agreement.specs.Statement.Machine.Event.{visited}
+use Rattle.agreement.specs.Statement.Machine.Went.{helped, plainly}
 use Rattle.agreement.specs.Statement.Premises.{Enterable, Keeps, Layout, Typed}
 use Rattle.agreement.specs.X86.Decode.{Bytes, Operand.mem}
 use Rattle.agreement.specs.X86.Encode.{bytes, encode}

@@ -10,15 +10,14 @@ use lib.ListN.{length}
 use Rattle.agreement.specs.Common.{Helper.forHalfword, greatest}
 use Rattle.agreement.specs.Riscv.Fields.{plus}
 use Rattle.agreement.specs.Riscv.Instruction.{Instruction}
-use Rattle.agreement.specs.Riscv.Instruction.{Instruction.AUIPC, Instruction.FENCE, Instruction.FENCE·I, Instruction.JAL}
-use Rattle.agreement.specs.Riscv.Instruction.{Instruction.JALR, Instruction.LUI, Instruction.access, Instruction.branch}
-use Rattle.agreement.specs.Riscv.Instruction.{Instruction.op, Instruction.opImm, Instruction.other, Instruction.unmodelled}
+use Rattle.agreement.specs.Riscv.Instruction.Instruction.{AUIPC, FENCE, FENCE·I, JAL, JALR, LUI, access, branch, op, opImm, other}
+use Rattle.agreement.specs.Riscv.Instruction.Instruction.{unmodelled}
 use Rattle.agreement.specs.Riscv.Run.{chosen, firstRefused, isLong, isNotTaken, refused, taken, wordOf}
 use Rattle.agreement.specs.Translation.Kind.{kind}
-use Rattle.agreement.specs.Translation.Replies.{Block, First.begins, First.lacks, First.untaken, Refusal}
-use Rattle.agreement.specs.Translation.Replies.{Refusal.limitZero, Refusal.missing, Refusal.notTaken, Refusal.oddStart}
-use Rattle.agreement.specs.Translation.Replies.{Refusal.outputShort, Reply.block, Reply.refusal}
-use Rattle.agreement.specs.Translation.Replies.{blockOf, byFirst, first, firstWord, translate, walked}
+use Rattle.agreement.specs.Translation.Replies.{Block, Refusal, blockOf, byFirst, first, firstWord, translate, walked}
+use Rattle.agreement.specs.Translation.Replies.First.{begins, lacks, untaken}
+use Rattle.agreement.specs.Translation.Replies.Refusal.{limitZero, missing, notTaken, oddStart, outputShort}
+use Rattle.agreement.specs.Translation.Replies.Reply.{block, refusal}
 use Rattle.agreement.specs.Translation.Walk.{End, End.calls, End.goesOn, End.jumped, Walked, emit, helps, stopsAt, walk}
 use Rattle.agreement.specs.Statement.Machine.{Turn, reply}
 use Rattle.agreement.specs.Statement.Premises.{Halfwords}

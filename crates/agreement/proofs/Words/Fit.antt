@@ -7,15 +7,15 @@ use Prim.Native.Nat.{_*_, _-_, _<_, _^_, ℕ}
 use native.Mathlib.Decide.{ℕ-discrete}
 use native.Mathlib.Omega.{arith}
 use lib.Dec.{T, eqb}
-use Rattle.agreement.specs.Riscv.Instruction.{Branch, Op}
-use Rattle.agreement.specs.Riscv.Instruction.{Op.ADD, Op.ADDW, Op.AND, Op.MUL, Op.MULW, Op.OR, Op.SLL, Op.SLLW, Op.SLT, Op.SLTU}
-use Rattle.agreement.specs.Riscv.Instruction.{Op.SRA, Op.SRAW, Op.SRL, Op.SRLW, Op.SUB, Op.SUBW, Op.XOR, OpImm}
-use Rattle.agreement.specs.Riscv.Instruction.{OpImm.ADDI, OpImm.ADDIW, OpImm.ANDI, OpImm.ORI, OpImm.SLLI, OpImm.SLLIW, OpImm.SLTI}
-use Rattle.agreement.specs.Riscv.Instruction.{OpImm.SLTIU, OpImm.SRAI, OpImm.SRAIW, OpImm.SRLI, OpImm.SRLIW, OpImm.XORI}
+use Rattle.agreement.specs.Riscv.Instruction.{Branch, Op, OpImm}
+use Rattle.agreement.specs.Riscv.Instruction.Op.{ADD, ADDW, AND, MUL, MULW, OR, SLL, SLLW, SLT, SLTU, SRA, SRAW, SRL, SRLW, SUB, SUBW}
+use Rattle.agreement.specs.Riscv.Instruction.Op.{XOR}
+use Rattle.agreement.specs.Riscv.Instruction.OpImm.{ADDI, ADDIW, ANDI, ORI, SLLI, SLLIW, SLTI, SLTIU, SRAI, SRAIW, SRLI, SRLIW, XORI}
 use Rattle.agreement.specs.Translation.Emit.{bodyOp, bodyOpImm, codeBranch, codeConst, codeJal, codeJalr, codeOp, codeOpImm, compare}
 use Rattle.agreement.specs.Translation.Emit.{loadReg, storeReg}
-use Rattle.agreement.specs.X86.Form.{Alu.add, Alu.and, Instr, Instr.aluImm32, Instr.mov, Instr.movImm64, Instr.store}
-use Rattle.agreement.specs.X86.Form.{Ok, R10, R11, RAX, RBX}
+use Rattle.agreement.specs.X86.Form.{Instr, Ok, R10, R11, RAX, RBX}
+use Rattle.agreement.specs.X86.Form.Alu.{add, and}
+use Rattle.agreement.specs.X86.Form.Instr.{aluImm32, mov, movImm64, store}
 use Rattle.agreement.proofs.Host.Straight.{Fine, fine-append}
 use Rattle.agreement.proofs.Laws.Tests.{eqb-no, eqb-yes}
 use Rattle.agreement.proofs.Words.Tame.{AllTame, Tame, free}

@@ -7,14 +7,15 @@ use native.Mathlib.Nat.{mod-eq-of-lt, mod-mod}
 use native.Mathlib.Omega.{arith}
 use lib.Bits.{and-high, bitAnd}
 use lib.Dec.{eqb}
-use Rattle.agreement.specs.Riscv.Instruction.{Branch, Branch.BEQ, Branch.BGE, Branch.BGEU, Branch.BLT, Branch.BLTU, Branch.BNE}
-use Rattle.agreement.specs.Riscv.Instruction.{branches}
+use Rattle.agreement.specs.Riscv.Instruction.{Branch, branches}
+use Rattle.agreement.specs.Riscv.Instruction.Branch.{BEQ, BGE, BGEU, BLT, BLTU, BNE}
 use Rattle.agreement.specs.Riscv.Run.{Registers, writeX}
 use Rattle.agreement.specs.Translation.Emit.{ccFor, codeBranch, codeConst, codeJal, codeJalr, loadReg}
 use Rattle.agreement.specs.X86.Execute.{exec}
 use Rattle.agreement.specs.X86.Flags.{aluFlags, aluValue, holds, sext, subFlags}
-use Rattle.agreement.specs.X86.Form.{Alu.add, Alu.and, Instr, Instr.aluImm32, Instr.mov, Instr.movImm64, Instr.store}
-use Rattle.agreement.specs.X86.Form.{R10, R11, RAX, RBX}
+use Rattle.agreement.specs.X86.Form.{Instr, R10, R11, RAX, RBX}
+use Rattle.agreement.specs.X86.Form.Alu.{add, and}
+use Rattle.agreement.specs.X86.Form.Instr.{aluImm32, mov, movImm64, store}
 use Rattle.agreement.specs.X86.State.{Flags, State}
 use Rattle.agreement.specs.X86.Step.{next, past}
 use Rattle.agreement.proofs.Host.Fetching.{one}

@@ -8,10 +8,9 @@ use native.Mathlib.Omega.{arith}
 use lib.Bits.{and-lt, and-mask, bitAnd, or-lt, xor-lt}
 use lib.Dec.{ltb}
 use lib.Pow.{shr-le}
-use Rattle.agreement.specs.Riscv.Instruction.{Op}
-use Rattle.agreement.specs.Riscv.Instruction.{Op.ADD, Op.ADDW, Op.AND, Op.MUL, Op.MULW, Op.OR, Op.SLL, Op.SLLW, Op.SLT, Op.SLTU}
-use Rattle.agreement.specs.Riscv.Instruction.{Op.SRA, Op.SRAW, Op.SRL, Op.SRLW, Op.SUB, Op.SUBW, Op.XOR}
-use Rattle.agreement.specs.Riscv.Instruction.{less, oneIf, shiftRightArithmetic, valueOp, word}
+use Rattle.agreement.specs.Riscv.Instruction.{Op, less, oneIf, shiftRightArithmetic, valueOp, word}
+use Rattle.agreement.specs.Riscv.Instruction.Op.{ADD, ADDW, AND, MUL, MULW, OR, SLL, SLLW, SLT, SLTU, SRA, SRAW, SRL, SRLW, SUB, SUBW}
+use Rattle.agreement.specs.Riscv.Instruction.Op.{XOR}
 use Rattle.agreement.specs.Riscv.Run.{Registers, writeX}
 use Rattle.agreement.specs.Translation.Emit.{bodyOp, codeOp, loadReg}
 use Rattle.agreement.specs.X86.Execute.{exec}

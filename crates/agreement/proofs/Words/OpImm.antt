@@ -8,10 +8,8 @@ use native.Mathlib.Omega.{arith}
 use lib.Bits.{and-lt, or-lt, xor-lt}
 use lib.Dec.{ltb}
 use lib.Pow.{shr-le}
-use Rattle.agreement.specs.Riscv.Instruction.{OpImm}
-use Rattle.agreement.specs.Riscv.Instruction.{OpImm.ADDI, OpImm.ADDIW, OpImm.ANDI, OpImm.ORI, OpImm.SLLI, OpImm.SLLIW, OpImm.SLTI}
-use Rattle.agreement.specs.Riscv.Instruction.{OpImm.SLTIU, OpImm.SRAI, OpImm.SRAIW, OpImm.SRLI, OpImm.SRLIW, OpImm.XORI}
-use Rattle.agreement.specs.Riscv.Instruction.{less, valueOpImm}
+use Rattle.agreement.specs.Riscv.Instruction.{OpImm, less, valueOpImm}
+use Rattle.agreement.specs.Riscv.Instruction.OpImm.{ADDI, ADDIW, ANDI, ORI, SLLI, SLLIW, SLTI, SLTIU, SRAI, SRAIW, SRLI, SRLIW, XORI}
 use Rattle.agreement.specs.Riscv.Run.{Registers, writeX}
 use Rattle.agreement.specs.Translation.Emit.{bodyOpImm, codeOpImm, loadReg}
 use Rattle.agreement.specs.X86.Execute.{exec}

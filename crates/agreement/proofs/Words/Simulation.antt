@@ -6,17 +6,15 @@ use Prim.Native.Nat.{_+_, _<_, _^_, _≤_, suc, zero, ℕ}
 use native.Mathlib.Omega.{arith}
 use Rattle.agreement.specs.Common.{Helper, Helper.forAccess, Helper.forHalfword}
 use Rattle.agreement.specs.Riscv.Fields.{opcode, plus, rd, rs1, rs2, shamt5, shamt6}
-use Rattle.agreement.specs.Riscv.Instruction.{Instruction}
-use Rattle.agreement.specs.Riscv.Instruction.{Instruction.AUIPC, Instruction.FENCE, Instruction.FENCE·I, Instruction.JAL}
-use Rattle.agreement.specs.Riscv.Instruction.{Instruction.JALR, Instruction.LUI, Instruction.access, Instruction.branch}
-use Rattle.agreement.specs.Riscv.Instruction.{Instruction.op, Instruction.opImm, Instruction.other, Instruction.unmodelled}
-use Rattle.agreement.specs.Riscv.Instruction.{valueOp, valueOpImm}
-use Rattle.agreement.specs.Riscv.Run.{Read, Registers, Stop, Stop.called, Stop.plain}
-use Rattle.agreement.specs.Riscv.Run.{does, halt, help, isLong, jump, oneMore, reading, taken, wordOf, writeX}
+use Rattle.agreement.specs.Riscv.Instruction.{Instruction, valueOp, valueOpImm}
+use Rattle.agreement.specs.Riscv.Instruction.Instruction.{AUIPC, FENCE, FENCE·I, JAL, JALR, LUI, access, branch, op, opImm, other}
+use Rattle.agreement.specs.Riscv.Instruction.Instruction.{unmodelled}
+use Rattle.agreement.specs.Riscv.Run.{Read, Registers, Stop, does, halt, help, isLong, jump, oneMore, reading, taken, wordOf, writeX}
+use Rattle.agreement.specs.Riscv.Run.Stop.{called, plain}
 use Rattle.agreement.specs.Translation.Emit.{codeBranch, codeConst, codeJal, codeJalr, codeOp, codeOpImm, compare, leftover, loadReg}
 use Rattle.agreement.specs.Translation.Kind.{kind}
-use Rattle.agreement.specs.Translation.Walk.{End, End.calls, End.goesOn, End.jumped}
-use Rattle.agreement.specs.Translation.Walk.{Walked, before, emit, helps, jumps, notTakenAt, stopsAt, walk}
+use Rattle.agreement.specs.Translation.Walk.{End, Walked, before, emit, helps, jumps, notTakenAt, stopsAt, walk}
+use Rattle.agreement.specs.Translation.Walk.End.{calls, goesOn, jumped}
 use Rattle.agreement.specs.Statement.Machine.{History.end}
 use Rattle.agreement.specs.Statement.Premises.{Halfwords}
 use Rattle.agreement.specs.X86.Execute.{exec}

@@ -9,10 +9,10 @@ use native.Mathlib.Omega.{arith}
 use lib.Dec.{T, eqb}
 use Rattle.agreement.specs.X86.Execute.{accesses, exec, result}
 use Rattle.agreement.specs.X86.Flags.{sext}
-use Rattle.agreement.specs.X86.Form.{Alu, Alu.add, Alu.and, Alu.cmp, Alu.or, Alu.sub, Alu.xor, Instr}
-use Rattle.agreement.specs.X86.Form.{Instr.alu, Instr.aluImm32, Instr.aluImm8, Instr.callRax, Instr.cmov, Instr.imul, Instr.load}
-use Rattle.agreement.specs.X86.Form.{Instr.mov, Instr.movImm64, Instr.movsxd, Instr.movzx, Instr.pop, Instr.push, Instr.ret}
-use Rattle.agreement.specs.X86.Form.{Instr.setccAl, Instr.shiftCl, Instr.shiftImm8, Instr.store, R12, R13, R14, R15, RBP, RBX, RSP}
+use Rattle.agreement.specs.X86.Form.{Alu, Instr, R12, R13, R14, R15, RBP, RBX, RSP}
+use Rattle.agreement.specs.X86.Form.Alu.{add, and, cmp, or, sub, xor}
+use Rattle.agreement.specs.X86.Form.Instr.{alu, aluImm32, aluImm8, callRax, cmov, imul, load, mov, movImm64, movsxd, movzx, pop, push}
+use Rattle.agreement.specs.X86.Form.Instr.{ret, setccAl, shiftCl, shiftImm8, store}
 use Rattle.agreement.specs.X86.Memory.{at, span}
 use Rattle.agreement.specs.X86.State.{Flags, Permissions, State, set}
 use Rattle.agreement.specs.X86.Step.{all, past}

@@ -8,11 +8,11 @@ use lib.Dec.{ltb, eqb}
 use Rattle.agreement.specs.Common.{greatest, mostSteps, Helper, Helper.forHalfword, Helper.forAccess}
 use Rattle.agreement.specs.Riscv.Fields.{rd, rs1, rs2, shamt6, shamt5, plus}
 use Rattle.agreement.specs.Riscv.Immediates.{immI, immB, immJ, immU}
-use Rattle.agreement.specs.Riscv.Instruction.{Instruction}
-use Rattle.agreement.specs.Riscv.Instruction.{Instruction.op, Instruction.opImm, Instruction.branch, Instruction.access}
-use Rattle.agreement.specs.Riscv.Instruction.{Instruction.unmodelled, Instruction.LUI, Instruction.AUIPC, Instruction.JAL}
-use Rattle.agreement.specs.Riscv.Instruction.{Instruction.JALR, Instruction.FENCE, Instruction.FENCE·I, Instruction.other}
-use Rattle.agreement.specs.Riscv.Instruction.{Three.anyThree, Top.anyTop, Row, row, findIn, listing, valueOp, valueOpImm, branches}
+use Rattle.agreement.specs.Riscv.Instruction.{Instruction, Row, row, findIn, listing, valueOp, valueOpImm, branches}
+use Rattle.agreement.specs.Riscv.Instruction.Instruction.{op, opImm, branch, access, unmodelled, LUI, AUIPC, JAL, JALR, FENCE}
+use Rattle.agreement.specs.Riscv.Instruction.Instruction.{FENCE·I, other}
+use Rattle.agreement.specs.Riscv.Instruction.Three.{anyThree}
+use Rattle.agreement.specs.Riscv.Instruction.Top.{anyTop}
 
 -- x0 to x31 by number
 abbrev pub Registers : Type 0

@@ -4,18 +4,18 @@ use mathlib.Core.Bool.{cond}
 use mathlib.Core.List.{List, [], _∷_, _++_}
 use Prim.Native.Nat.{ℕ, _-_, _*_, _^_}
 use lib.Dec.{eqb}
-use Rattle.agreement.specs.Riscv.Instruction.{Op}
-use Rattle.agreement.specs.Riscv.Instruction.{Op.ADD, Op.SUB, Op.SLT, Op.SLTU, Op.XOR, Op.OR, Op.AND, Op.SLL, Op.SRL, Op.SRA, Op.MUL}
-use Rattle.agreement.specs.Riscv.Instruction.{Op.ADDW, Op.SUBW, Op.SLLW, Op.SRLW, Op.SRAW, Op.MULW, OpImm}
-use Rattle.agreement.specs.Riscv.Instruction.{OpImm.ADDI, OpImm.SLTI, OpImm.SLTIU, OpImm.XORI, OpImm.ORI, OpImm.ANDI, OpImm.SLLI}
-use Rattle.agreement.specs.Riscv.Instruction.{OpImm.SRLI, OpImm.SRAI, OpImm.ADDIW, OpImm.SLLIW, OpImm.SRLIW, OpImm.SRAIW, Branch}
-use Rattle.agreement.specs.Riscv.Instruction.{Branch.BEQ, Branch.BNE, Branch.BLT, Branch.BGE, Branch.BLTU, Branch.BGEU}
-use Rattle.agreement.specs.X86.Form.{RAX, RCX, RDX, RBX, RSP, RBP, RSI, RDI, R8, R9, R10, R11, R12, R13, R14, R15}
-use Rattle.agreement.specs.X86.Form.{Width.r32, Width.r64, Alu.add, Alu.or, Alu.and, Alu.sub, Alu.xor, Alu.cmp}
-use Rattle.agreement.specs.X86.Form.{Shift.shl, Shift.shr, Shift.sar, Cc, Cc.B, Cc.AE, Cc.E, Cc.NE, Cc.L, Cc.GE, Instr}
-use Rattle.agreement.specs.X86.Form.{Instr.push, Instr.pop, Instr.mov, Instr.movImm64, Instr.load, Instr.store, Instr.alu}
-use Rattle.agreement.specs.X86.Form.{Instr.aluImm32, Instr.aluImm8, Instr.shiftCl, Instr.shiftImm8, Instr.imul, Instr.movsxd}
-use Rattle.agreement.specs.X86.Form.{Instr.setccAl, Instr.movzx, Instr.cmov}
+use Rattle.agreement.specs.Riscv.Instruction.{Op, OpImm, Branch}
+use Rattle.agreement.specs.Riscv.Instruction.Op.{ADD, SUB, SLT, SLTU, XOR, OR, AND, SLL, SRL, SRA, MUL, ADDW, SUBW, SLLW, SRLW, SRAW}
+use Rattle.agreement.specs.Riscv.Instruction.Op.{MULW}
+use Rattle.agreement.specs.Riscv.Instruction.OpImm.{ADDI, SLTI, SLTIU, XORI, ORI, ANDI, SLLI, SRLI, SRAI, ADDIW, SLLIW, SRLIW, SRAIW}
+use Rattle.agreement.specs.Riscv.Instruction.Branch.{BEQ, BNE, BLT, BGE, BLTU, BGEU}
+use Rattle.agreement.specs.X86.Form.{RAX, RCX, RDX, RBX, RSP, RBP, RSI, RDI, R8, R9, R10, R11, R12, R13, R14, R15, Cc, Instr}
+use Rattle.agreement.specs.X86.Form.Width.{r32, r64}
+use Rattle.agreement.specs.X86.Form.Alu.{add, or, and, sub, xor, cmp}
+use Rattle.agreement.specs.X86.Form.Shift.{shl, shr, sar}
+use Rattle.agreement.specs.X86.Form.Cc.{B, AE, E, NE, L, GE}
+use Rattle.agreement.specs.X86.Form.Instr.{push, pop, mov, movImm64, load, store, alu, aluImm32, aluImm8, shiftCl, shiftImm8, imul}
+use Rattle.agreement.specs.X86.Form.Instr.{movsxd, setccAl, movzx, cmov}
 
 -- x64_emit_load_reg, and x64_emit_store_reg, which writes no x0
 abbrev pub loadReg : ℕ → ℕ → Instr

@@ -4,16 +4,14 @@ use mathlib.Core.Bool.{cond}
 use mathlib.Core.List.{List, [], _∷_}
 use Prim.Native.Nat.{ℕ}
 use lib.Dec.{eqb}
-use Rattle.agreement.specs.Riscv.Instruction.{Op.ADD, Op.SUB, Op.SLT, Op.SLTU, Op.XOR, Op.OR, Op.AND, Op.SLL, Op.SRL, Op.SRA, Op.MUL}
-use Rattle.agreement.specs.Riscv.Instruction.{Op.ADDW, Op.SUBW, Op.SLLW, Op.SRLW, Op.SRAW, Op.MULW}
-use Rattle.agreement.specs.Riscv.Instruction.{OpImm.ADDI, OpImm.SLTI, OpImm.SLTIU, OpImm.XORI, OpImm.ORI, OpImm.ANDI, OpImm.SLLI}
-use Rattle.agreement.specs.Riscv.Instruction.{OpImm.SRLI, OpImm.SRAI, OpImm.ADDIW, OpImm.SLLIW, OpImm.SRLIW, OpImm.SRAIW}
-use Rattle.agreement.specs.Riscv.Instruction.{Branch.BEQ, Branch.BNE, Branch.BLT, Branch.BGE, Branch.BLTU, Branch.BGEU}
-use Rattle.agreement.specs.Riscv.Instruction.{Access.LB, Access.LH, Access.LW, Access.LD, Access.LBU, Access.LHU, Access.LWU}
-use Rattle.agreement.specs.Riscv.Instruction.{Access.SB, Access.SH, Access.SW, Access.SD, Instruction}
-use Rattle.agreement.specs.Riscv.Instruction.{Instruction.op, Instruction.opImm, Instruction.branch, Instruction.access}
-use Rattle.agreement.specs.Riscv.Instruction.{Instruction.unmodelled, Instruction.LUI, Instruction.AUIPC, Instruction.JAL}
-use Rattle.agreement.specs.Riscv.Instruction.{Instruction.JALR, Instruction.FENCE, Instruction.FENCE·I, Instruction.other}
+use Rattle.agreement.specs.Riscv.Instruction.{Instruction}
+use Rattle.agreement.specs.Riscv.Instruction.Op.{ADD, SUB, SLT, SLTU, XOR, OR, AND, SLL, SRL, SRA, MUL, ADDW, SUBW, SLLW, SRLW, SRAW}
+use Rattle.agreement.specs.Riscv.Instruction.Op.{MULW}
+use Rattle.agreement.specs.Riscv.Instruction.OpImm.{ADDI, SLTI, SLTIU, XORI, ORI, ANDI, SLLI, SRLI, SRAI, ADDIW, SLLIW, SRLIW, SRAIW}
+use Rattle.agreement.specs.Riscv.Instruction.Branch.{BEQ, BNE, BLT, BGE, BLTU, BGEU}
+use Rattle.agreement.specs.Riscv.Instruction.Access.{LB, LH, LW, LD, LBU, LHU, LWU, SB, SH, SW, SD}
+use Rattle.agreement.specs.Riscv.Instruction.Instruction.{op, opImm, branch, access, unmodelled, LUI, AUIPC, JAL, JALR, FENCE}
+use Rattle.agreement.specs.Riscv.Instruction.Instruction.{FENCE·I, other}
 use Rattle.agreement.specs.Translation.Decode32.{opcode, funct3, funct7, immHi}
 
 -- an arm `pattern => value` of a match on a number

@@ -6,9 +6,8 @@ use lib.Bits.{bitAnd}
 use lib.Dec.{eqb}
 use Rattle.agreement.specs.Common.{Helper, Helper.forHalfword, Helper.forAccess}
 use Rattle.agreement.specs.Riscv.Instruction.{Instruction}
-use Rattle.agreement.specs.Riscv.Instruction.{Instruction.op, Instruction.opImm, Instruction.branch, Instruction.access}
-use Rattle.agreement.specs.Riscv.Instruction.{Instruction.unmodelled, Instruction.LUI, Instruction.AUIPC, Instruction.JAL}
-use Rattle.agreement.specs.Riscv.Instruction.{Instruction.JALR, Instruction.FENCE, Instruction.FENCE·I, Instruction.other}
+use Rattle.agreement.specs.Riscv.Instruction.Instruction.{op, opImm, branch, access, unmodelled, LUI, AUIPC, JAL, JALR, FENCE}
+use Rattle.agreement.specs.Riscv.Instruction.Instruction.{FENCE·I, other}
 use Rattle.agreement.specs.X86.Form.{RAX, RDX, Instr, Instr.movImm64, Instr.callRax, Instr.ret}
 use Rattle.agreement.specs.Translation.Decode32.{wordOf, opcode, rd, rs1, rs2, imm32, shamt, shamtW, immB, immU, immJ, wrappingAdd}
 use Rattle.agreement.specs.Translation.Kind.{kind}

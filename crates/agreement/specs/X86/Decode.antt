@@ -7,11 +7,13 @@ use mathlib.Core.List.{List, [], _∷_}
 use mathlib.Core.Option.{Option, none, some}
 use Prim.Native.Nat.{ℕ, zero, suc, _+_, _*_, _/_, _%_, _<_}
 use lib.Dec.{ltb, eqb}
-use Rattle.agreement.specs.X86.Form.{Width, Width.r32, Width.r64, Alu, Alu.add, Alu.or, Alu.and, Alu.sub, Alu.xor, Alu.cmp, Shift}
-use Rattle.agreement.specs.X86.Form.{Shift.shl, Shift.shr, Shift.sar, Cc, Cc.B, Cc.AE, Cc.E, Cc.NE, Cc.L, Cc.GE, Instr}
-use Rattle.agreement.specs.X86.Form.{Instr.push, Instr.pop, Instr.mov, Instr.movImm64, Instr.load, Instr.store, Instr.alu}
-use Rattle.agreement.specs.X86.Form.{Instr.aluImm32, Instr.aluImm8, Instr.shiftCl, Instr.shiftImm8, Instr.imul, Instr.movsxd}
-use Rattle.agreement.specs.X86.Form.{Instr.setccAl, Instr.movzx, Instr.cmov, Instr.callRax, Instr.ret}
+use Rattle.agreement.specs.X86.Form.{Width, Alu, Shift, Cc, Instr}
+use Rattle.agreement.specs.X86.Form.Width.{r32, r64}
+use Rattle.agreement.specs.X86.Form.Alu.{add, or, and, sub, xor, cmp}
+use Rattle.agreement.specs.X86.Form.Shift.{shl, shr, sar}
+use Rattle.agreement.specs.X86.Form.Cc.{B, AE, E, NE, L, GE}
+use Rattle.agreement.specs.X86.Form.Instr.{push, pop, mov, movImm64, load, store, alu, aluImm32, aluImm8, shiftCl, shiftImm8, imul}
+use Rattle.agreement.specs.X86.Form.Instr.{movsxd, setccAl, movzx, cmov, callRax, ret}
 
 -- an operand named by ModRM.rm: a register, or memory at a base register plus a displacement
 pub data Operand : Type 0 where

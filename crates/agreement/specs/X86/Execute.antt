@@ -3,11 +3,11 @@ use mathlib.Core.Bool.{cond}
 use mathlib.Core.List.{List, []}
 use Prim.Native.Nat.{ℕ, _+_, _-_, _*_, _/_, _%_, _^_}
 use Rattle.agreement.specs.X86.Memory.{at, read, write, span}
-use Rattle.agreement.specs.X86.Form.{RAX, RCX, RSP, Width, Width.r32, Width.r64, Alu}
-use Rattle.agreement.specs.X86.Form.{Alu.add, Alu.or, Alu.and, Alu.sub, Alu.xor, Alu.cmp, Shift, Instr}
-use Rattle.agreement.specs.X86.Form.{Instr.push, Instr.pop, Instr.mov, Instr.movImm64, Instr.load, Instr.store, Instr.alu}
-use Rattle.agreement.specs.X86.Form.{Instr.aluImm32, Instr.aluImm8, Instr.shiftCl, Instr.shiftImm8, Instr.imul, Instr.movsxd}
-use Rattle.agreement.specs.X86.Form.{Instr.setccAl, Instr.movzx, Instr.cmov, Instr.callRax, Instr.ret}
+use Rattle.agreement.specs.X86.Form.{RAX, RCX, RSP, Width, Alu, Shift, Instr}
+use Rattle.agreement.specs.X86.Form.Width.{r32, r64}
+use Rattle.agreement.specs.X86.Form.Alu.{add, or, and, sub, xor, cmp}
+use Rattle.agreement.specs.X86.Form.Instr.{push, pop, mov, movImm64, load, store, alu, aluImm32, aluImm8, shiftCl, shiftImm8, imul}
+use Rattle.agreement.specs.X86.Form.Instr.{movsxd, setccAl, movzx, cmov, callRax, ret}
 use Rattle.agreement.specs.X86.State.{Flags, State, set}
 use Rattle.agreement.specs.X86.Flags.{sext, aluValue, aluFlags, holds, shifted, shiftFlags, imulFlags, bitOf}
 

@@ -4,8 +4,10 @@ use mathlib.Core.Bool.{Bool, true, false, not, cond, _&&_}
 use Prim.Native.Nat.{ℕ, zero, suc, _+_, _-_, _*_, _/_, _%_, _^_}
 use lib.Bits.{bitAnd, bitOr, bitXor}
 use lib.Dec.{leb, ltb, eqb}
-use Rattle.agreement.specs.X86.Form.{Alu, Alu.add, Alu.or, Alu.and, Alu.sub, Alu.xor, Alu.cmp, Shift, Shift.shl, Shift.shr, Shift.sar}
-use Rattle.agreement.specs.X86.Form.{Cc, Cc.B, Cc.AE, Cc.E, Cc.NE, Cc.L, Cc.GE}
+use Rattle.agreement.specs.X86.Form.{Alu, Shift, Cc}
+use Rattle.agreement.specs.X86.Form.Alu.{add, or, and, sub, xor, cmp}
+use Rattle.agreement.specs.X86.Form.Shift.{shl, shr, sar}
+use Rattle.agreement.specs.X86.Form.Cc.{B, AE, E, NE, L, GE}
 use Rattle.agreement.specs.X86.State.{Flags}
 
 -- is the top bit of a number of w bits set

@@ -1,7 +1,8 @@
 use mathlib.Core.Path.{sym, ap, _∙_}
 use borrow.Author.Needs.{needs}
 use Rattle.block.specs.First.{firstAs}
-use Rattle.block.proofs.ReplyLaws.{if-limit-zero, if-odd-start, if-first, limit-zero, odd-start, missing-halfword, not-taken, output-short, made}
+use Rattle.block.proofs.ReplyLaws.{if-limit-zero, if-odd-start, if-first, limit-zero, odd-start, missing-halfword, not-taken}
+use Rattle.block.proofs.ReplyLaws.{output-short, made}
 use Rattle.block.proofs.translate.Statement.{statement}
 use Rattle.block.proofs.translate.Tie as tie
 

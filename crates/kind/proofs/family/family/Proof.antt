@@ -1,6 +1,7 @@
 -- One test for each opcode: 40 words of it, one of each class and funct3.
 use native.Mathlib.Omega.{arith}
-use Rattle.agreement.specs.Translation.Kind.{match, kindOf, kindOp, kindOp32, kindOpImm, kindOpImm32, kindBranch, kindLoad, kindStore, kindFence}
+use Rattle.agreement.specs.Translation.Kind.{match, kindOf, kindOp, kindOp32, kindOpImm, kindOpImm32, kindBranch, kindLoad, kindStore}
+use Rattle.agreement.specs.Translation.Kind.{kindFence}
 use Rattle.agreement.proofs.Laws.Matches.{missed}
 use Rattle.kind.proofs.Families.{by-test, none}
 use Rattle.kind.proofs.family.family.Statement.{statement}
