@@ -116,3 +116,12 @@ pub fn clear(cache: &mut NativeCodeCache)
 {
     cache.used = 0;
 }
+
+// For a caller that keeps the mark as a number.
+pub fn clear_from(used: usize) -> usize
+    ensures { λ r. ⌜ r ≡ 0 ⌝ }
+{
+    let mut cache = NativeCodeCache { used };
+    clear(&mut cache);
+    cache.used
+}
