@@ -8,7 +8,8 @@
 //         imm_i imm_s imm_b imm_u imm_j opcode rd funct3 rs1 rs2 funct7 imm12, in decimal, the immediates signed
 //
 // Other numbers are decimal. A line that is no request, or has over 8,192 bytes, or asks for lent bytes of over 65,536, gets
-// `bad request`, and the program goes on. Where lent bytes or a mark changed that must not, `touched` is behind the reply.
+// `bad request`, and the program goes on. Where lent bytes or a mark changed that must not, or a cleared mark is not 0, `touched` is behind
+// the reply.
 // Each line is answered as it comes, so that another program can ask and wait for the reply.
 mod decoding;
 mod fields;

@@ -54,12 +54,15 @@ fn print_answer(placing: Placing, used: usize, mark: usize, code: &[u8], store: 
     }
 }
 
+// Whatever the mark has become, a store that is then cleared starts at 0 again.
 fn answer(used: usize, code: &mut [u8], store: &mut [u8]) {
     fill_code(code);
     pattern::fill(store);
     let a = store::alloc_from(used, code, store);
     let placing = a.placing;
-    if !print_answer(placing, used, a.used, code, store) {
+    let kept = print_answer(placing, used, a.used, code, store);
+    let cleared = store::clear_from(a.used) == 0;
+    if !(kept && cleared) {
         io::write_all(STDOUT_FILENO, b" touched");
     }
 }
