@@ -1,5 +1,7 @@
 // D lines: the immediates and fields of a word.
 use libc::STDOUT_FILENO;
+ghost use mathlib.Core.Path.{_≡_};
+ghost use Rattle.requests.specs.Lines.{isDecoding};
 
 fn print_unsigned(n: u64) {
     io::write_all(STDOUT_FILENO, b" ");
@@ -39,16 +41,14 @@ fn print_fields(word: u32) {
     print_unsigned(d.imm12 as u64);
 }
 
-pub fn reply(line: &[u8]) {
-    let word = crate::fields::hexadecimal(line, 2);
-    if word.good {
-        if word.next == line.len() {
-            if word.value < 0x1_0000_0000 {
-                print_immediates(word.value as u32);
-                print_fields(word.value as u32);
-                return;
-            }
-        }
+// Whether the line is a request.
+pub fn reply(line: &[u8]) -> bool
+    ensures { λ r. ⌜ r ≡ isDecoding (now (line .entry)) ⌝ }
+{
+    let asked = requests::read_decoding(line);
+    if asked.good {
+        print_immediates(asked.word);
+        print_fields(asked.word);
     }
-    crate::bad_request();
+    asked.good
 }

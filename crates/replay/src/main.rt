@@ -8,12 +8,9 @@
 //         imm_i imm_s imm_b imm_u imm_j opcode rd funct3 rs1 rs2 funct7 imm12, in decimal, the immediates signed
 //
 // Other numbers are decimal. A line that is no request, or has over 8,192 bytes, or asks for lent bytes of over 65,536, gets
-// `bad request`, and the program goes on. Where lent bytes or a mark changed that must not, or a cleared mark is not 0, `touched` is behind
-// the reply.
-// Each line is answered as it comes, so that another program can ask and wait for the reply.
+// `bad request`, and the program goes on. Where lent bytes or a mark changed that must not, or a cleared mark is not 0, `touched` is
+// behind the reply. Each line is answered as it comes, so that another program can ask and wait for the reply.
 mod decoding;
-mod fields;
-mod pattern;
 mod placing;
 mod translation;
 
@@ -23,39 +20,31 @@ use libc::STDOUT_FILENO;
 ghost use mathlib.Core.Path.{_≡_};
 ghost use lib.ListN.{length};
 
-fn reply(line: &[u8]) {
-    if line.len() >= 2 {
-        if line[1] == b' ' {
-            match line[0] {
-                b'D' => {
-                    decoding::reply(line);
-                    return;
-                }
-                b'T' => {
-                    translation::reply(line);
-                    return;
-                }
-                b'P' => {
-                    placing::reply(line);
-                    return;
-                }
-                _ => {}
-            }
-        }
+// Whether the line is a request.
+fn reply(line: &[u8]) -> bool {
+    if line.len() < 2 {
+        return false;
     }
-    bad_request();
-}
-
-pub fn bad_request() {
-    io::write_all(STDOUT_FILENO, b"bad request");
+    if line[1] != b' ' {
+        return false;
+    }
+    match line[0] {
+        b'D' => decoding::reply(line),
+        b'T' => translation::reply(line),
+        b'P' => placing::reply(line),
+        _ => false,
+    }
 }
 
 // Whether the reply could be written.
 fn end_of_line(line: &[u8], used: usize) -> bool {
-    if used <= line.len() {
-        reply(&line[..used]);
+    let answered = if used <= line.len() {
+        reply(&line[..used])
     } else {
-        bad_request();
+        false
+    };
+    if !answered {
+        io::write_all(STDOUT_FILENO, b"bad request");
     }
     io::write_all(STDOUT_FILENO, b"\n")
 }

@@ -1,8 +1,9 @@
 // P lines: code placed in a store that was filled with a pattern.
-use crate::fields;
-use crate::pattern;
 use libc::STDOUT_FILENO;
 use store::Placing;
+ghost use mathlib.Core.Path.{_≡_};
+ghost use Prim.Native.Nat.{_≤_};
+ghost use Rattle.requests.specs.Lines.{isPlacing};
 
 fn code_byte(i: usize) -> u8 {
     255 - (i % 241) as u8
@@ -38,18 +39,18 @@ fn print_answer(placing: Placing, used: usize, mark: usize, code: &[u8], store: 
             io::print_decimal(STDOUT_FILENO, offset as u64);
             io::write_all(STDOUT_FILENO, b" ");
             io::print_decimal(STDOUT_FILENO, end as u64);
-            let before = pattern::is_untouched(store, 0, offset);
-            let behind = pattern::is_untouched(store, end, store.len());
+            let before = requests::is_untouched(store, 0, offset);
+            let behind = requests::is_untouched(store, end, store.len());
             let copied = is_copied(store, offset, code);
             before && behind && copied && mark == end
         }
         Placing::Beyond => {
             io::write_all(STDOUT_FILENO, b"6");
-            mark == used && pattern::is_untouched(store, 0, store.len())
+            mark == used && requests::is_untouched(store, 0, store.len())
         }
         Placing::Full => {
             io::write_all(STDOUT_FILENO, b"7");
-            mark == used && pattern::is_untouched(store, 0, store.len())
+            mark == used && requests::is_untouched(store, 0, store.len())
         }
     }
 }
@@ -57,7 +58,7 @@ fn print_answer(placing: Placing, used: usize, mark: usize, code: &[u8], store: 
 // Whatever the mark has become, a store that is then cleared starts at 0 again.
 fn answer(used: usize, code: &mut [u8], store: &mut [u8]) {
     fill_code(code);
-    pattern::fill(store);
+    requests::fill(store);
     let a = store::alloc_from(used, code, store);
     let placing = a.placing;
     let kept = print_answer(placing, used, a.used, code, store);
@@ -67,23 +68,24 @@ fn answer(used: usize, code: &mut [u8], store: &mut [u8]) {
     }
 }
 
-pub fn reply(line: &[u8]) {
-    let used = fields::decimal(line, 2);
-    let size = fields::decimal(line, fields::behind(line, used));
-    let length = fields::decimal(line, fields::behind(line, size));
-    let room = size.value as usize;
-    let n = length.value as usize;
-    if !length.good {
-        crate::bad_request();
-    } else if length.next != line.len() {
-        crate::bad_request();
-    } else if room > 65536 {
-        crate::bad_request();
-    } else if n > 65536 {
-        crate::bad_request();
-    } else {
-        let mut code = io::large_buffer();
-        let mut store = io::large_buffer();
-        answer(used.value as usize, &mut code[..n], &mut store[..room]);
+// Lends a code and a store of the lengths that are asked for.
+fn lend(asked: requests::Placing)
+    requires { ⌜ (asked .code ≤ 65536) × (asked .store ≤ 65536) ⌝ }
+{
+    let n = asked.code;
+    let room = asked.store;
+    let mut code = io::large_buffer();
+    let mut store = io::large_buffer();
+    answer(asked.used, &mut code[..n], &mut store[..room]);
+}
+
+// Whether the line is a request.
+pub fn reply(line: &[u8]) -> bool
+    ensures { λ r. ⌜ r ≡ isPlacing (now (line .entry)) ⌝ }
+{
+    let asked = requests::read_placing(line);
+    if asked.good {
+        lend(asked);
     }
+    asked.good
 }

@@ -1,10 +1,10 @@
 // T lines: a translation into an output that was filled with a pattern, by which it is seen whether other bytes changed.
-use crate::fields;
-use crate::pattern;
 use block::Answer;
 use libc::STDOUT_FILENO;
+use requests::Translation;
 ghost use mathlib.Core.Path.{_≡_};
 ghost use Prim.Native.Nat.{_%_, _<_, _≤_};
+ghost use Rattle.requests.specs.Lines.{isTranslation};
 
 const DIGITS: [u8; 16] = *b"0123456789abcdef";
 
@@ -76,97 +76,40 @@ fn print_answer(answer: Answer, out: &[u8]) -> usize {
     0
 }
 
-fn answer(
-    start: u64,
-    limit: u32,
-    halfwords: &[u16],
-    helper16: u64,
-    helper_mem: u64,
-    out: &mut [u8],
-) {
-    pattern::fill(out);
-    let answer = block::translate(start, limit, halfwords, helper16, helper_mem, out);
+fn answer(asked: Translation, halfwords: &[u16], out: &mut [u8]) {
+    requests::fill(out);
+    let answer = block::translate(
+        asked.start,
+        asked.limit,
+        halfwords,
+        asked.helper16,
+        asked.helper_mem,
+        out,
+    );
     let used = print_answer(answer, out);
-    if !pattern::is_untouched(out, used, out.len()) {
+    if !requests::is_untouched(out, used, out.len()) {
         io::write_all(STDOUT_FILENO, b" touched");
     }
 }
 
-// No list of halfwords, or one that is too long.
-const NO_LIST: usize = 0xFFFF_FFFF;
-
-// The halfwords of a line, four digits each, a comma between two: how many, or NO_LIST.
-fn read_halfwords(line: &[u8], from: usize, halfwords: &mut [u16]) -> usize {
-    let mut n = 0usize;
-    let mut at = from;
-    while at < line.len() {
-        let h = fields::hexadecimal(line, at);
-        let next = h.next;
-        if n >= halfwords.len() {
-            return NO_LIST;
-        }
-        if next < at {
-            return NO_LIST;
-        }
-        if next - at != 4 {
-            return NO_LIST;
-        }
-        halfwords[n] = (h.value % 65536) as u16;
-        n += 1;
-        if next >= line.len() {
-            return n;
-        }
-        if line[next] != b',' {
-            return NO_LIST;
-        }
-        at = next + 1;
-    }
-    NO_LIST
+// Lends an output of the length that is asked for.
+fn lend(asked: Translation, halfwords: &[u16])
+    requires { ⌜ asked .output ≤ 65536 ⌝ }
+{
+    let room = asked.output;
+    let mut out = io::large_buffer();
+    answer(asked, halfwords, &mut out[..room]);
 }
 
-fn is_dash(line: &[u8], at: usize) -> bool {
-    if at < line.len() {
-        if line[at] == b'-' {
-            return at == line.len() - 1;
-        }
-    }
-    false
-}
-
-// A list of no halfwords is a dash.
-fn halfwords_of(line: &[u8], at: usize, halfwords: &mut [u16]) -> usize {
-    if is_dash(line, at) {
-        0
-    } else {
-        read_halfwords(line, at, halfwords)
-    }
-}
-
-pub fn reply(line: &[u8]) {
-    let start = fields::hexadecimal(line, 2);
-    let limit = fields::decimal(line, fields::behind(line, start));
-    let helper16 = fields::hexadecimal(line, fields::behind(line, limit));
-    let helper_mem = fields::hexadecimal(line, fields::behind(line, helper16));
-    let output = fields::decimal(line, fields::behind(line, helper_mem));
+// Whether the line is a request.
+pub fn reply(line: &[u8]) -> bool
+    ensures { λ r. ⌜ r ≡ isTranslation 2048 (now (line .entry)) ⌝ }
+{
     let mut halfwords = [0u16; 2048];
-    let n = halfwords_of(line, fields::behind(line, output), &mut halfwords);
-    let most = limit.value;
-    let room = output.value as usize;
-    if n > 2048 {
-        crate::bad_request();
-    } else if most > 0xFFFF_FFFF {
-        crate::bad_request();
-    } else if room > 65536 {
-        crate::bad_request();
-    } else {
-        let mut out = io::large_buffer();
-        answer(
-            start.value,
-            most as u32,
-            &halfwords[..n],
-            helper16.value,
-            helper_mem.value,
-            &mut out[..room],
-        );
+    let asked = requests::read_translation(line, &mut halfwords);
+    if asked.good {
+        let n = asked.count;
+        lend(asked, &halfwords[..n]);
     }
+    asked.good
 }

@@ -1,3 +1,4 @@
+-- The line so far is within its place.
 use mathlib.Core.Path.{sym}
 use native.Mathlib.Omega.{arith}
 use lib.Seq.{length-take-le}
@@ -11,6 +12,7 @@ end-of-line-spec =
     (tie.spec
     (λ c. sym (length-take-le _ _ (omega arith)))
     (λ c κs. search needs)
+    (λ c. search needs)
     (λ c κs. search needs)
     (λ c. search needs)
     (λ c κs. search needs)

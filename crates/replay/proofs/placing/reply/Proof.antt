@@ -1,7 +1,6 @@
-use mathlib.Core.Path.{sym}
-use native.Mathlib.Omega.{arith}
-use lib.Seq.{length-take-le}
+-- Whether the line is a request is what reading it told; the lengths of a request are within the buffers.
 use borrow.Author.Needs.{needs}
+use Rattle.requests.proofs.LineLaws.{code-fits, store-fits}
 use Rattle.replay.proofs.placing.reply.Statement.{statement}
 use Rattle.replay.proofs.placing.reply.Tie as tie
 
@@ -10,23 +9,6 @@ reply-spec =
     tie.close
     (tie.spec
     (λ c κs. search needs)
-    (λ c κs. search needs)
-    (λ c κs. search needs)
-    (λ c κs. search needs)
-    (λ c κs. search needs)
-    (λ c κs. search needs)
-    (λ c κs. search needs)
-    (λ c κs. search needs)
-    (λ c κs. search needs)
-    (λ c κs. search needs)
-    (λ c κs. search needs)
-    (λ c. search needs)
-    (λ c. sym (length-take-le _ _ (omega arith)))
-    (λ c. search needs)
-    (λ c. sym (length-take-le _ _ (omega arith)))
-    (λ c κs. search needs)
-    (λ c. search needs)
-    (λ c. search needs)
-    (λ c. search needs)
-    (λ c. search needs)
-    (λ c. search needs))
+    (λ c κs. let read = c .before .read-placing .ensures in (code-fits _ read (c .if1 .taken), store-fits _ read (c .if1 .taken)))
+    (λ c. rw (c .before .before .read-placing .ensures))
+    (λ c. rw (c .before .read-placing .ensures)))

@@ -1,0 +1,4 @@
+pub mod DigitLaws
+pub mod HalfwordLaws
+pub mod LineLaws
+pub mod PatternLaws

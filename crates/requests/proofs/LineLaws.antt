@@ -1,0 +1,36 @@
+-- What a request asks to be lent is not too much: for the caller that lends it.
+use mathlib.Core.Path.{_≡_}
+use mathlib.Core.Bool.{true, _&&_, and-eq-true-iff}
+use mathlib.Core.List.{List}
+use Prim.Native.Nat.{ℕ, _≤_, _^_}
+use borrow.Author.Tests.{leb-true}
+use lib.Dec.{ltb, leb}
+use Rattle.requests.specs.declared.fields.Field.{Field}
+use Rattle.requests.specs.declared.halfwords.Run.{Run}
+use Rattle.requests.specs.declared.placing.Placing.{Placing}
+use Rattle.requests.specs.declared.translation.Translation.{Translation}
+use Rattle.requests.specs.Fields.{isLast}
+use Rattle.requests.specs.Lines.{lent, isPlacingOf, isTranslationOf, placingOf, Asks}
+
+lengths : (line : List ℕ) (store code : Field) → isPlacingOf line store code ≡ true → (store .value ≤ lent) × (code .value ≤ lent)
+unfolding isPlacingOf
+lengths line store code e =
+    let tests = and-eq-true-iff (isLast line code) (leb (store .value) lent && leb (code .value) lent) .0 e .1 in
+    let both = and-eq-true-iff (leb (store .value) lent) (leb (code .value) lent) .0 tests in
+    (leb-true (store .value) lent (both .0), leb-true (code .value) lent (both .1))
+
+output-length : (limit output : Field) (run : Run) → isTranslationOf limit output run ≡ true → output .value ≤ lent
+unfolding isTranslationOf
+output-length limit output run e =
+    let tests = and-eq-true-iff (run .good) (ltb (limit .value) (2 ^ 32) && leb (output .value) lent) .0 e .1 in
+    leb-true (output .value) lent (and-eq-true-iff (ltb (limit .value) (2 ^ 32)) (leb (output .value) lent) .0 tests .1)
+
+module _ (line : List ℕ) {r : Placing} (reads : r ≡ placingOf line) (good : r .good ≡ true) where
+  pub store-fits : r .store ≤ lent
+  store-fits = rw reads (lengths line _ _ (rw reads at good) .0)
+
+  pub code-fits : r .code ≤ lent
+  code-fits = rw reads (lengths line _ _ (rw reads at good) .1)
+
+pub output-fits : {room : ℕ} {line halfwords : List ℕ} {r : Translation} → Asks room line halfwords r → r .good ≡ true → r .output ≤ lent
+output-fits asks good = rw (asks .numbers) (output-length _ _ _ (rw (asks .numbers) at good))

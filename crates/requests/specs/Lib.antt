@@ -1,0 +1,4 @@
+pub mod Fields
+pub mod Halfwords
+pub mod Lines
+pub mod Pattern

@@ -1,0 +1,19 @@
+// The lines that replay answers: what each asks for, and what the bytes that are lent to it are filled with.
+mod decoding;
+mod fields;
+mod halfwords;
+mod pattern;
+mod placing;
+mod translation;
+
+pub use decoding::Decoding;
+pub use decoding::read_decoding;
+pub use pattern::fill;
+pub use pattern::is_untouched;
+pub use placing::Placing;
+pub use placing::read_placing;
+pub use translation::Translation;
+pub use translation::read_translation;
+
+// The most bytes that are lent to a request.
+const LENT: u64 = 65536;
