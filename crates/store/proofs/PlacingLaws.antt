@@ -9,7 +9,8 @@ use lib.Dec.{ltb}
 use lib.ListN.{length, take, drop}
 use Rattle.agreement.specs.Translation.Place as Definition
 use Rattle.agreement.specs.Translation.Place.{roundUp, place, placingNumbered, storeAfter, markAfter}
-use Rattle.agreement.specs.Translation.Place.{Placing.placed, Placing.beyond, Placing.full}
+use Rattle.agreement.specs.Translation.Place.Placing.{placed, beyond, full}
+use Rattle.agreement.proofs.Laws.Values.{second-value, differ}
 use Rattle.store.specs.Places.{Places, Allocates, answered, markOf}
 use Rattle.store.specs.declared.Placing.{Placing}
 use Rattle.store.specs.declared.Placing.the-variants.{Placed, Beyond, Full}
@@ -67,22 +68,10 @@ is-placed code store after used offset mark o m h k l =
 
 -- 3. The mark afterwards
 
-head : List ℕ → ℕ
-head [] = 0
-head (x ∷ xs) = x
-
-tail : List ℕ → List ℕ
-tail [] = []
-tail (x ∷ xs) = xs
-
--- two numbers that differ
-differ : {A : Type 0} {p q : ℕ × List ℕ} → p ≡ q → (p .0 ≡ q .0 → ⊥) → A
-differ e n = absurd (n (ap (λ (x : ℕ × List ℕ). x .0) e))
-
 -- the same number and values leave the same mark: the second value, or the old one
 same-mark : (p : Definition.Placing) (r : Placing) (used : ℕ) → answered r ≡ placingNumbered p → markOf used r ≡ markAfter p used
-unfolding placingNumbered markAfter head tail
-same-mark (placed offset mark) (Placed o m) used e = ap (λ (x : ℕ × List ℕ). head (tail (x .1))) e
+unfolding placingNumbered markAfter
+same-mark (placed offset mark) (Placed o m) used e = second-value e
 same-mark beyond Beyond used e = refl
 same-mark full Full used e = refl
 same-mark (placed offset mark) Beyond used e = differ e (λ n. omega arith)

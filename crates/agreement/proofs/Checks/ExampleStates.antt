@@ -1,8 +1,7 @@
 -- The manual's state along the example, turn by turn, by computing.
 use mathlib.Core.Bool.{cond, false, not, true}
-use mathlib.Core.List.{List, [], _∷_}
 use mathlib.Core.Path.{_∙_, _≡_, ap, refl}
-use Prim.Native.Nat.{_%_, _+_, _^_, ℕ}
+use Prim.Native.Nat.{_%_, _+_, _^_}
 use native.Mathlib.Omega.{arith}
 use lib.Dec.{eqb}
 use Rattle.agreement.specs.Common.{Helper.forAccess, Helper.forHalfword}

@@ -11,7 +11,7 @@ use Rattle.agreement.specs.Translation.Replies.{Block, Reply.block, tran
 use Rattle.agreement.specs.Statement.Agreement.{Agreement, Agrees}
 use Rattle.agreement.specs.Statement.Machine.{RegisterBytes, Turn, reply}
 use Rattle.agreement.specs.Statement.Premises.{Enterable, Halfwords, Keeps, Layout, Premises, Typed}
-use Rattle.agreement.specs.X86.Memory.{Memory, at, read, write}
+use Rattle.agreement.specs.X86.Memory.{Memory, read, write}
 use Rattle.agreement.specs.X86.State.{State}
 use Rattle.agreement.proofs.Checks.Cases.{words}
 use Rattle.agreement.proofs.Checks.Example.{firstPc, fiveTurns, halfwordTurn, helperTurn, leaves, plainTurn, range, refusedTurn}

@@ -2,28 +2,28 @@
 use mathlib.Core.Bool.{Bool, false, not, true}
 use mathlib.Core.List.{List, [], _∷_}
 use mathlib.Core.Path.{_∙_, _≡_, ap, refl, sym}
-use Prim.Native.Nat.{_%_, _+_, _-_, _<_, _^_, _≤_, suc, ℕ}
+use Prim.Native.Nat.{_%_, _+_, _-_, _≤_, ℕ}
 use native.Mathlib.Omega.{arith}
 use lib.Dec.{eqb}
 use lib.ListN.{length}
 use Rattle.agreement.specs.Common.{Helper, Helper.forAccess, Helper.forHalfword}
-use Rattle.agreement.specs.Riscv.Run.{GuestState, Stop, Stop.called, Stop.plain}
+use Rattle.agreement.specs.Riscv.Run.{GuestState, Stop.called}
 use Rattle.agreement.specs.Statement.Agreement.{isRefused, own}
-use Rattle.agreement.specs.Statement.Machine.{Call, Event, RegisterBytes, Turn, Visit, enter}
+use Rattle.agreement.specs.Statement.Machine.{Call, Event, RegisterBytes, Visit, enter}
 use Rattle.agreement.specs.Translation.Replies.{walked}
 use Rattle.agreement.specs.Translation.Walk.{instrs}
 use Rattle.agreement.specs.X86.Form.{R12, R13, R14, R15, R8, RAX, RBP, RBX, RCX, RDI, RDX, RSI, RSP}
-use Rattle.agreement.specs.X86.Memory.{Memory, at, nth, overlay, read}
+use Rattle.agreement.specs.X86.Memory.{at, nth, overlay, read}
 use Rattle.agreement.specs.X86.State.{State}
 use Rattle.agreement.specs.X86.Step.{all}
 use Rattle.agreement.proofs.Checks.Cases.{words}
 use Rattle.agreement.proofs.Checks.CasesHold.{immediates, translations}
-use Rattle.agreement.proofs.Checks.Example.{halfwordTurn, helperTurn, leaves, plainTurn, turnOf, zeros}
+use Rattle.agreement.proofs.Checks.Example.{halfwordTurn, helperTurn, leaves, plainTurn, turnOf}
 use Rattle.agreement.proofs.Checks.ExampleStates.{after-three, m0, m2, reads-a-turn, second-x1, x1-is}
 use Rattle.agreement.proofs.Checks.PremisesMet.{Allowed, no-longer}
 use Rattle.agreement.proofs.Host.Memory.{read-ext}
 use Rattle.agreement.proofs.Laws.Tests.{eqb-true}
-use Rattle.agreement.proofs.Theorem.Consequences.{WasEntered, WentHelped, WentPlainly, readAs}
+use Rattle.agreement.proofs.Theorem.Consequences.{WasEntered, WentHelped, WentPlainly}
 use Rattle.agreement.proofs.Theorem.MemoryAtEntry.{overlay-out}
 
 -- 1. Every entry

@@ -2,7 +2,7 @@
 use mathlib.Core.Bool.{false, true}
 use mathlib.Core.Option.{Option, none, some}
 use mathlib.Core.Path.{_∙_, _≡_, refl, sym}
-use Prim.Native.Nat.{_%_, _*_, _+_, _^_, ℕ}
+use Prim.Native.Nat.{_*_, _+_, ℕ}
 use native.Mathlib.Omega.{arith}
 use lib.ListN.{length}
 use Rattle.agreement.specs.Common.{Helper}
@@ -13,7 +13,7 @@ use Rattle.agreement.specs.Statement.Machine.{Call, Event, RegisterBytes
 use Rattle.agreement.specs.Statement.Machine.Event.{rejected, visited}
 use Rattle.agreement.specs.Statement.Machine.Turned.{skip, visit}
 use Rattle.agreement.specs.Statement.Machine.Went.{helped, plainly}
-use Rattle.agreement.specs.X86.Form.{RAX, RDX}
+use Rattle.agreement.specs.X86.Form.{RAX}
 use Rattle.agreement.specs.X86.Memory.{read}
 use Rattle.agreement.specs.X86.State.{State}
 use Rattle.agreement.proofs.Theorem.ManualRun.{turn-called, turn-plain, turn-refused}

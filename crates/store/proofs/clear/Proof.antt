@@ -14,10 +14,10 @@ use prog.Wp.{Heap, Calls, Loops, WpFn, Tables}
 use ghost.Atoms.{Atoms}
 use contract.Monad.{Fun}
 use contract.Running.{givenOf, tables, tablesOf}
-use types.Kit.{Item, Given, ‵, _⊛_, ⋆, _$_, _∵_, !, qed, by, move, keep, drop, split, join, fsplit, fsplit3, fjoin, fjoin3}
-use types.Kit.{feqI, suffices, frame, done}
-use types.Run.{look, init, forget, stop, hop, fld, from, lit, unit-lit, of-opd, assigns, returns, enter}
-use types.Run.{alloc1, alloc0, params1, pass1, pass0, free1, free0}
+use types.Kit.{Item, Given, ‵, _⊛_, ⋆, _$_, _∵_, !, qed, by, move, keep, drop, split, join, fsplit, fsplit3, fjoin, fjoin3, feqI, suffices}
+use types.Kit.{frame, done}
+use types.Run.{look, init, forget, stop, hop, fld, from, lit, unit-lit, of-opd, assigns, returns, enter, alloc1, alloc0, params1, pass1}
+use types.Run.{pass0, free1, free0}
 use types.Part.{whole, sub, store-in}
 use sound.WpLaws.{WpFn-mono}
 use denote.RattleType.{owns}

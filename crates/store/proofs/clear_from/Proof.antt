@@ -15,10 +15,10 @@ use prog.Wp.{Heap, Calls, Loops, WpFn, Tables}
 use ghost.Atoms.{Atoms}
 use contract.Monad.{Fun}
 use contract.Running.{givenOf, tables, tablesOf}
-use types.Kit.{Item, Given, ‵, raw, some, later, _⊛_, ⋆, _$_, _∵_, !, qed, by, move, keep, drop, use1, use2, split, join, pick}
-use types.Kit.{fsplit, fjoin, suffices, frame, await, done}
-use types.Run.{look, init, forget, stop, fld, from, load, addr, of-opd, and-then, no-more, assigns, land, returns, enter}
-use types.Run.{alloc1, alloc0, params1, pass1, pass0, free1, free0}
+use types.Kit.{Item, Given, ‵, raw, some, later, _⊛_, ⋆, _$_, _∵_, !, qed, by, move, keep, drop, use1, use2, split, join, pick, fsplit}
+use types.Kit.{fjoin, suffices, frame, await, done}
+use types.Run.{look, init, forget, stop, fld, from, load, addr, of-opd, and-then, no-more, assigns, land, returns, enter, alloc1, alloc0}
+use types.Run.{params1, pass1, pass0, free1, free0}
 use types.Part.{agg, whole, sub, look-in}
 use sound.WpLaws.{FmC, fmOf, WpFn-mono}
 use denote.RattleType.{owns}

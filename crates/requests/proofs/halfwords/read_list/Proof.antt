@@ -3,8 +3,8 @@ use Prim.Native.Nat.{_-_}
 use native.Mathlib.Omega.{arith}
 use lib.ListN.{length, length-set}
 use borrow.Author.Needs.{needs}
-use Rattle.requests.proofs.HalfwordLaws.{reads-none, reads-found, Read, none-read, no-room, no-halfword, at-the-end}
-use Rattle.requests.proofs.HalfwordLaws.{at-another-byte, at-a-comma}
+use Rattle.requests.proofs.HalfwordLaws.{reads-none, reads-found, Read, none-read, no-room, no-halfword, at-the-end, at-another-byte}
+use Rattle.requests.proofs.HalfwordLaws.{at-a-comma}
 use Rattle.requests.proofs.halfwords.read_list.Statement.{statement}
 use Rattle.requests.proofs.halfwords.read_list.Tie as tie
 
