@@ -72,7 +72,8 @@ def part(crate, folder, title):
         elif not lists_only(path):
             sys.exit(f"{os.path.relpath(path, ROOT)}: no comment at its top")
     if bare:
-        lines.append(f"| F/Proof | {bare} further proofs of functions |")
+        what = "further proofs of functions" if bare > 1 else "further proof of a function"
+        lines.append(f"| F/Proof | {bare} {what} |")
     return ["", f"| {title}: {folder}/ | |", "|---|---|"] + lines if lines else []
 
 
