@@ -7,6 +7,7 @@ use lib.Dec.{eqb}
 use Rattle.agreement.specs.X86.Memory.{bytesOf}
 use Rattle.agreement.specs.X86.Form.{RAX, Width.r64}
 use Rattle.agreement.specs.X86.Encode.{rex, modReg, modMem}
+use Rattle.emitter.specs.declared.forms.Form.{Form}
 use Rattle.emitter.specs.Forms.{widthOf, opcodeOf, digitOf}
 
 -- ModRM and SIB: two bits, three bits, three bits
@@ -29,29 +30,29 @@ abbrev pub memPlain : ℕ → ℕ → ℕ → List ℕ
 memPlain reg base disp = modrm 2 reg base ∷ bytesOf 4 disp
 
 -- a register in the opcode
-abbrev pub opcodeReg : ℕ → Bool → ℕ → List ℕ
+abbrev pub opcodeReg : Form → Bool → ℕ → List ℕ
 opcodeReg form w reg = rex (widthOf w) 0 reg ++ (opcodeOf form + reg % 8) ∷ []
 
 -- two registers; two behind 0F; AL behind 0F
-abbrev pub regRm : ℕ → Bool → ℕ → ℕ → List ℕ
+abbrev pub regRm : Form → Bool → ℕ → ℕ → List ℕ
 regRm form w reg rm = rex (widthOf w) reg rm ++ opcodeOf form ∷ modReg reg rm ∷ []
 
-abbrev pub regRm0F : ℕ → ℕ → Bool → ℕ → ℕ → List ℕ
+abbrev pub regRm0F : Form → ℕ → Bool → ℕ → ℕ → List ℕ
 regRm0F form plus w reg rm = rex (widthOf w) reg rm ++ 0x0F ∷ (opcodeOf form + plus) ∷ modReg reg rm ∷ []
 
-abbrev pub al0F : ℕ → ℕ → List ℕ
+abbrev pub al0F : Form → ℕ → List ℕ
 al0F form plus = 0x0F ∷ (opcodeOf form + plus) ∷ modReg 0 RAX ∷ []
 
 -- a register and memory
-abbrev pub regMem : ℕ → ℕ → ℕ → ℕ → List ℕ
+abbrev pub regMem : Form → ℕ → ℕ → ℕ → List ℕ
 regMem form reg base disp = rex r64 reg base ++ opcodeOf form ∷ modMem reg base disp
 
 -- a register with a digit; with a byte; with four bytes
-abbrev pub digitRm : ℕ → Bool → ℕ → List ℕ
+abbrev pub digitRm : Form → Bool → ℕ → List ℕ
 digitRm form w rm = rex (widthOf w) 0 rm ++ opcodeOf form ∷ modReg (digitOf form) rm ∷ []
 
-abbrev pub digitRmImm8 : ℕ → Bool → ℕ → ℕ → List ℕ
+abbrev pub digitRmImm8 : Form → Bool → ℕ → ℕ → List ℕ
 digitRmImm8 form w rm imm = rex (widthOf w) 0 rm ++ opcodeOf form ∷ modReg (digitOf form) rm ∷ imm ∷ []
 
-abbrev pub digitRmImm32 : ℕ → ℕ → ℕ → List ℕ
+abbrev pub digitRmImm32 : Form → ℕ → ℕ → List ℕ
 digitRmImm32 form rm imm = rex r64 0 rm ++ opcodeOf form ∷ modReg (digitOf form) rm ∷ bytesOf 4 imm

@@ -4,6 +4,7 @@
 // Immediates and displacements are unsigned in two's complement.
 mod forms;
 
+use forms::Form;
 ghost use mathlib.Core.Path.{_≡_};
 ghost use mathlib.Core.Bool.{true, false, cond};
 ghost use mathlib.Core.List.{[], _∷_};
@@ -175,32 +176,33 @@ impl X64Emitter {
     }
 
     // The form's opcode.
-    fn emit_opcode(self, out: &mut [u8], form: usize) -> X64Emitter
-        requires { ⌜ (form < 42) × Room (now out) (self .at) (length (opcodeOf form ∷ [])) ⌝ }
+    fn emit_opcode(self, out: &mut [u8], form: Form) -> X64Emitter
+        requires { ⌜ Room (now out) (self .at) (length (opcodeOf form ∷ [])) ⌝ }
         ensures { λ r. ⌜ Wrote (now (out .entry)) (self .at) (opcodeOf form ∷ []) (now (out .exit)) (r .at) ⌝ }
     {
-        self.emit_u8(out, forms::FORMS[form][0])
+        self.emit_u8(out, form.0)
     }
 
     // The form's opcode with a register or a condition added to it.
-    fn emit_opcode_plus(self, out: &mut [u8], form: usize, plus: u8) -> X64Emitter
-        requires { ⌜ (form < 42) × (opcodeOf form + plus < 256) × Room (now out) (self .at) (length ((opcodeOf form + plus) ∷ [])) ⌝ }
+    fn emit_opcode_plus(self, out: &mut [u8], form: Form, plus: u8) -> X64Emitter
+        requires { ⌜ (opcodeOf form + plus < 256) × Room (now out) (self .at) (length ((opcodeOf form + plus) ∷ [])) ⌝ }
         ensures { λ r. ⌜ Wrote (now (out .entry)) (self .at) ((opcodeOf form + plus) ∷ []) (now (out .exit)) (r .at) ⌝ }
     {
-        self.emit_u8(out, forms::FORMS[form][0] + plus)
+        self.emit_u8(out, form.0 + plus)
     }
 
     // ModRM with the form's digit.
-    fn emit_digit(self, out: &mut [u8], form: usize, rm: u8) -> X64Emitter
-        requires { ⌜ (form < 42) × Room (now out) (self .at) (length (modReg (digitOf form) rm ∷ [])) ⌝ }
+    fn emit_digit(self, out: &mut [u8], form: Form, rm: u8) -> X64Emitter
+        requires { ⌜ Room (now out) (self .at) (length (modReg (digitOf form) rm ∷ [])) ⌝ }
         ensures { λ r. ⌜ Wrote (now (out .entry)) (self .at) (modReg (digitOf form) rm ∷ []) (now (out .exit)) (r .at) ⌝ }
     {
-        self.emit_modrm(out, 3, forms::FORMS[form][1], rm)
+        self.emit_modrm(out, 3, form.1, rm)
     }
 
-    // The shapes of a form, one function each: a register in the opcode.
-    fn form_reg(self, out: &mut [u8], form: usize, w: bool, reg: u8) -> X64Emitter
-        requires { ⌜ (form < 42) × (opcodeOf form < 249) × (reg < 16) × Room (now out) (self .at) (length (opcodeReg form w reg)) ⌝ }
+    // The shapes of a form, one function each; one without a digit takes no row of the table that has one.
+    // A register in the opcode.
+    fn form_reg(self, out: &mut [u8], form: Form, w: bool, reg: u8) -> X64Emitter
+        requires { ⌜ (digitOf form ≡ 0) × (opcodeOf form < 249) × (reg < 16) × Room (now out) (self .at) (length (opcodeReg form w reg)) ⌝ }
         ensures { λ r. ⌜ Wrote (now (out .entry)) (self .at) (opcodeReg form w reg) (now (out .exit)) (r .at) ⌝ }
     {
         let a = self.emit_rex(out, w, 0, 0, reg);
@@ -208,8 +210,8 @@ impl X64Emitter {
     }
 
     // Two registers.
-    fn form_reg_rm(self, out: &mut [u8], form: usize, w: bool, reg: u8, rm: u8) -> X64Emitter
-        requires { ⌜ (form < 42) × (reg < 16) × (rm < 16) × Room (now out) (self .at) (length (regRm form w reg rm)) ⌝ }
+    fn form_reg_rm(self, out: &mut [u8], form: Form, w: bool, reg: u8, rm: u8) -> X64Emitter
+        requires { ⌜ (digitOf form ≡ 0) × (reg < 16) × (rm < 16) × Room (now out) (self .at) (length (regRm form w reg rm)) ⌝ }
         ensures { λ r. ⌜ Wrote (now (out .entry)) (self .at) (regRm form w reg rm) (now (out .exit)) (r .at) ⌝ }
     {
         let a = self.emit_rex(out, w, reg, 0, rm);
@@ -221,13 +223,13 @@ impl X64Emitter {
     fn form_0f_reg_rm(
         self,
         out: &mut [u8],
-        form: usize,
+        form: Form,
         plus: u8,
         w: bool,
         reg: u8,
         rm: u8,
     ) -> X64Emitter
-        requires { ⌜ (form < 42) × (opcodeOf form + plus < 256) × (reg < 16) × (rm < 16)
+        requires { ⌜ (digitOf form ≡ 0) × (opcodeOf form + plus < 256) × (reg < 16) × (rm < 16)
             × Room (now out) (self .at) (length (regRm0F form plus w reg rm)) ⌝ }
         ensures { λ r. ⌜ Wrote (now (out .entry)) (self .at) (regRm0F form plus w reg rm) (now (out .exit)) (r .at) ⌝ }
     {
@@ -238,8 +240,8 @@ impl X64Emitter {
     }
 
     // AL behind 0F.
-    fn form_0f_al(self, out: &mut [u8], form: usize, plus: u8) -> X64Emitter
-        requires { ⌜ (form < 42) × (opcodeOf form + plus < 256) × Room (now out) (self .at) (length (al0F form plus)) ⌝ }
+    fn form_0f_al(self, out: &mut [u8], form: Form, plus: u8) -> X64Emitter
+        requires { ⌜ (digitOf form ≡ 0) × (opcodeOf form + plus < 256) × Room (now out) (self .at) (length (al0F form plus)) ⌝ }
         ensures { λ r. ⌜ Wrote (now (out .entry)) (self .at) (al0F form plus) (now (out .exit)) (r .at) ⌝ }
     {
         let a = self.emit_u8(out, 0x0F);
@@ -248,8 +250,8 @@ impl X64Emitter {
     }
 
     // A register and memory.
-    fn form_reg_mem(self, out: &mut [u8], form: usize, reg: u8, base: u8, disp: u32) -> X64Emitter
-        requires { ⌜ (form < 42) × (reg < 16) × (base < 16) × Room (now out) (self .at) (length (regMem form reg base disp)) ⌝ }
+    fn form_reg_mem(self, out: &mut [u8], form: Form, reg: u8, base: u8, disp: u32) -> X64Emitter
+        requires { ⌜ (digitOf form ≡ 0) × (reg < 16) × (base < 16) × Room (now out) (self .at) (length (regMem form reg base disp)) ⌝ }
         ensures { λ r. ⌜ Wrote (now (out .entry)) (self .at) (regMem form reg base disp) (now (out .exit)) (r .at) ⌝ }
     {
         let a = self.emit_rex(out, true, reg, 0, base);
@@ -257,9 +259,17 @@ impl X64Emitter {
         b.emit_mem_disp32(out, reg, base, disp)
     }
 
+    // No operand.
+    fn form_bare(self, out: &mut [u8], form: Form) -> X64Emitter
+        requires { ⌜ (digitOf form ≡ 0) × Room (now out) (self .at) (length (opcodeOf form ∷ [])) ⌝ }
+        ensures { λ r. ⌜ Wrote (now (out .entry)) (self .at) (opcodeOf form ∷ []) (now (out .exit)) (r .at) ⌝ }
+    {
+        self.emit_opcode(out, form)
+    }
+
     // A register with a digit.
-    fn form_digit_rm(self, out: &mut [u8], form: usize, w: bool, rm: u8) -> X64Emitter
-        requires { ⌜ (form < 42) × (rm < 16) × Room (now out) (self .at) (length (digitRm form w rm)) ⌝ }
+    fn form_digit_rm(self, out: &mut [u8], form: Form, w: bool, rm: u8) -> X64Emitter
+        requires { ⌜ (rm < 16) × Room (now out) (self .at) (length (digitRm form w rm)) ⌝ }
         ensures { λ r. ⌜ Wrote (now (out .entry)) (self .at) (digitRm form w rm) (now (out .exit)) (r .at) ⌝ }
     {
         let a = self.emit_rex(out, w, 0, 0, rm);
@@ -268,8 +278,8 @@ impl X64Emitter {
     }
 
     // A register with a digit, and a byte.
-    fn form_digit_rm_imm8(self, out: &mut [u8], form: usize, w: bool, rm: u8, imm: u8) -> X64Emitter
-        requires { ⌜ (form < 42) × (rm < 16) × Room (now out) (self .at) (length (digitRmImm8 form w rm imm)) ⌝ }
+    fn form_digit_rm_imm8(self, out: &mut [u8], form: Form, w: bool, rm: u8, imm: u8) -> X64Emitter
+        requires { ⌜ (rm < 16) × Room (now out) (self .at) (length (digitRmImm8 form w rm imm)) ⌝ }
         ensures { λ r. ⌜ Wrote (now (out .entry)) (self .at) (digitRmImm8 form w rm imm) (now (out .exit)) (r .at) ⌝ }
     {
         let a = self.emit_rex(out, w, 0, 0, rm);
@@ -279,8 +289,8 @@ impl X64Emitter {
     }
 
     // A register with a digit, and four bytes.
-    fn form_digit_rm_imm32(self, out: &mut [u8], form: usize, rm: u8, imm: u32) -> X64Emitter
-        requires { ⌜ (form < 42) × (rm < 16) × Room (now out) (self .at) (length (digitRmImm32 form rm imm)) ⌝ }
+    fn form_digit_rm_imm32(self, out: &mut [u8], form: Form, rm: u8, imm: u32) -> X64Emitter
+        requires { ⌜ (rm < 16) × Room (now out) (self .at) (length (digitRmImm32 form rm imm)) ⌝ }
         ensures { λ r. ⌜ Wrote (now (out .entry)) (self .at) (digitRmImm32 form rm imm) (now (out .exit)) (r .at) ⌝ }
     {
         let a = self.form_digit_rm(out, form, true, rm);
@@ -580,6 +590,6 @@ impl X64Emitter {
         requires { ⌜ Room (now out) (self .at) (length (encode «ret»)) ⌝ }
         ensures { λ r. ⌜ Wrote (now (out .entry)) (self .at) (encode «ret») (now (out .exit)) (r .at) ⌝ }
     {
-        self.emit_opcode(out, forms::RET)
+        self.form_bare(out, forms::RET)
     }
 }
