@@ -29,62 +29,83 @@ fn moves(em: X64Emitter, out: &mut [u8]) -> X64Emitter
     c.mov_m64_disp32_r64(out, X64Emitter::R12, 0xF8, X64Emitter::RAX)
 }
 
-// ADD, SUB.
+// ADD of 64 and 32 bits, and of an immediate.
 fn additions(em: X64Emitter, out: &mut [u8]) -> X64Emitter
     requires { ⌜ em .at + 32 ≤ length (now out) ⌝ }
     ensures { λ r. ⌜ (r .at ≤ em .at + 32) × (length (now (out .exit)) ≡ length (now (out .entry))) ⌝ }
 {
     let a = em.add_r64_r64(out, X64Emitter::R10, X64Emitter::R11);
     let b = a.add_r32_r32(out, X64Emitter::R10, X64Emitter::RCX);
-    let c = b.add_r64_imm32(out, X64Emitter::R10, 0xFFFF_F800);
-    c.sub_r64_r64(out, X64Emitter::RCX, X64Emitter::R10)
+    b.add_r64_imm32(out, X64Emitter::R10, 0xFFFF_F800)
 }
 
-// SUB, AND, OR.
-fn logic(em: X64Emitter, out: &mut [u8]) -> X64Emitter
+// SUB of 64 and 32 bits.
+fn subtractions(em: X64Emitter, out: &mut [u8]) -> X64Emitter
     requires { ⌜ em .at + 32 ≤ length (now out) ⌝ }
     ensures { λ r. ⌜ (r .at ≤ em .at + 32) × (length (now (out .exit)) ≡ length (now (out .entry))) ⌝ }
 {
-    let a = em.sub_r32_r32(out, X64Emitter::RAX, X64Emitter::RDX);
-    let b = a.and_r64_r64(out, X64Emitter::R10, X64Emitter::R11);
-    let c = b.and_r64_imm32(out, X64Emitter::R10, 0x7FF);
-    c.or_r64_r64(out, X64Emitter::R10, X64Emitter::R11)
+    let a = em.sub_r64_r64(out, X64Emitter::RCX, X64Emitter::R10);
+    a.sub_r32_r32(out, X64Emitter::RAX, X64Emitter::RDX)
 }
 
-// XOR, OR, AND.
-fn logic_with_immediates(em: X64Emitter, out: &mut [u8]) -> X64Emitter
+// AND, AND with an immediate, OR.
+fn ands_and_or(em: X64Emitter, out: &mut [u8]) -> X64Emitter
+    requires { ⌜ em .at + 32 ≤ length (now out) ⌝ }
+    ensures { λ r. ⌜ (r .at ≤ em .at + 32) × (length (now (out .exit)) ≡ length (now (out .entry))) ⌝ }
+{
+    let a = em.and_r64_r64(out, X64Emitter::R10, X64Emitter::R11);
+    let b = a.and_r64_imm32(out, X64Emitter::R10, 0x7FF);
+    b.or_r64_r64(out, X64Emitter::R10, X64Emitter::R11)
+}
+
+// XOR, XOR with an immediate.
+fn xors(em: X64Emitter, out: &mut [u8]) -> X64Emitter
     requires { ⌜ em .at + 32 ≤ length (now out) ⌝ }
     ensures { λ r. ⌜ (r .at ≤ em .at + 32) × (length (now (out .exit)) ≡ length (now (out .entry))) ⌝ }
 {
     let a = em.xor_r64_r64(out, X64Emitter::R10, X64Emitter::R11);
-    let b = a.xor_r64_imm32(out, X64Emitter::R10, 0xFFFF_FFFF);
-    let c = b.or_r64_imm32(out, X64Emitter::R10, 1);
-    c.and_r64_imm8(out, X64Emitter::RCX, 0x1F)
+    a.xor_r64_imm32(out, X64Emitter::R10, 0xFFFF_FFFF)
 }
 
-// CMP, SHL, SHR.
-fn compares(em: X64Emitter, out: &mut [u8]) -> X64Emitter
+// OR with an immediate of four bytes, AND with one of one byte.
+fn or_and_with_immediates(em: X64Emitter, out: &mut [u8]) -> X64Emitter
+    requires { ⌜ em .at + 32 ≤ length (now out) ⌝ }
+    ensures { λ r. ⌜ (r .at ≤ em .at + 32) × (length (now (out .exit)) ≡ length (now (out .entry))) ⌝ }
+{
+    let a = em.or_r64_imm32(out, X64Emitter::R10, 1);
+    a.and_r64_imm8(out, X64Emitter::RCX, 0x1F)
+}
+
+// CMP, CMP with an immediate.
+fn comparisons(em: X64Emitter, out: &mut [u8]) -> X64Emitter
     requires { ⌜ em .at + 32 ≤ length (now out) ⌝ }
     ensures { λ r. ⌜ (r .at ≤ em .at + 32) × (length (now (out .exit)) ≡ length (now (out .entry))) ⌝ }
 {
     let a = em.cmp_r64_r64(out, X64Emitter::R10, X64Emitter::R11);
-    let b = a.cmp_r64_imm32(out, X64Emitter::R10, 0x80);
-    let c = b.shl_r64_cl(out, X64Emitter::R10);
-    c.shr_r64_cl(out, X64Emitter::R10)
+    a.cmp_r64_imm32(out, X64Emitter::R10, 0x80)
 }
 
-// shifts of 64 bits.
-fn shifts_64(em: X64Emitter, out: &mut [u8]) -> X64Emitter
+// SHL, SHR, SAR of 64 bits by CL.
+fn shifts_64_by_cl(em: X64Emitter, out: &mut [u8]) -> X64Emitter
     requires { ⌜ em .at + 32 ≤ length (now out) ⌝ }
     ensures { λ r. ⌜ (r .at ≤ em .at + 32) × (length (now (out .exit)) ≡ length (now (out .entry))) ⌝ }
 {
-    let a = em.sar_r64_cl(out, X64Emitter::R10);
-    let b = a.shl_r64_imm8(out, X64Emitter::R10, 63);
-    let c = b.shr_r64_imm8(out, X64Emitter::R10, 1);
-    c.sar_r64_imm8(out, X64Emitter::R10, 32)
+    let a = em.shl_r64_cl(out, X64Emitter::R10);
+    let b = a.shr_r64_cl(out, X64Emitter::R10);
+    b.sar_r64_cl(out, X64Emitter::R10)
 }
 
-// shifts of 32 bits by CL.
+// SHL, SHR, SAR of 64 bits by a byte.
+fn shifts_64_by_imm8(em: X64Emitter, out: &mut [u8]) -> X64Emitter
+    requires { ⌜ em .at + 32 ≤ length (now out) ⌝ }
+    ensures { λ r. ⌜ (r .at ≤ em .at + 32) × (length (now (out .exit)) ≡ length (now (out .entry))) ⌝ }
+{
+    let a = em.shl_r64_imm8(out, X64Emitter::R10, 63);
+    let b = a.shr_r64_imm8(out, X64Emitter::R10, 1);
+    b.sar_r64_imm8(out, X64Emitter::R10, 32)
+}
+
+// SHL, SHR, SAR of 32 bits by CL.
 fn shifts_32_by_cl(em: X64Emitter, out: &mut [u8]) -> X64Emitter
     requires { ⌜ em .at + 32 ≤ length (now out) ⌝ }
     ensures { λ r. ⌜ (r .at ≤ em .at + 32) × (length (now (out .exit)) ≡ length (now (out .entry))) ⌝ }
@@ -94,7 +115,7 @@ fn shifts_32_by_cl(em: X64Emitter, out: &mut [u8]) -> X64Emitter
     b.sar_r32_cl(out, X64Emitter::RAX)
 }
 
-// shifts of 32 bits by a byte.
+// SHL, SHR, SAR of 32 bits by a byte.
 fn shifts_32_by_imm8(em: X64Emitter, out: &mut [u8]) -> X64Emitter
     requires { ⌜ em .at + 32 ≤ length (now out) ⌝ }
     ensures { λ r. ⌜ (r .at ≤ em .at + 32) × (length (now (out .exit)) ≡ length (now (out .entry))) ⌝ }
@@ -104,17 +125,24 @@ fn shifts_32_by_imm8(em: X64Emitter, out: &mut [u8]) -> X64Emitter
     b.sar_r32_imm8(out, X64Emitter::R10, 5)
 }
 
-// IMUL, MOVSXD.
+// IMUL of 64 and 32 bits.
 fn products(em: X64Emitter, out: &mut [u8]) -> X64Emitter
     requires { ⌜ em .at + 32 ≤ length (now out) ⌝ }
     ensures { λ r. ⌜ (r .at ≤ em .at + 32) × (length (now (out .exit)) ≡ length (now (out .entry))) ⌝ }
 {
     let a = em.imul_r64_r64(out, X64Emitter::R10, X64Emitter::R11);
-    let b = a.imul_r32_r32(out, X64Emitter::RAX, X64Emitter::RDX);
-    b.movsxd_r64_r32(out, X64Emitter::R10, X64Emitter::RAX)
+    a.imul_r32_r32(out, X64Emitter::RAX, X64Emitter::RDX)
 }
 
-// SETcc, MOVZX, CMOVcc.
+// MOVSXD.
+fn sign_extension(em: X64Emitter, out: &mut [u8]) -> X64Emitter
+    requires { ⌜ em .at + 32 ≤ length (now out) ⌝ }
+    ensures { λ r. ⌜ (r .at ≤ em .at + 32) × (length (now (out .exit)) ≡ length (now (out .entry))) ⌝ }
+{
+    em.movsxd_r64_r32(out, X64Emitter::R10, X64Emitter::RAX)
+}
+
+// SETcc, MOVZX of its byte, CMOVcc.
 fn conditions(em: X64Emitter, out: &mut [u8]) -> X64Emitter
     requires { ⌜ em .at + 32 ≤ length (now out) ⌝ }
     ensures { λ r. ⌜ (r .at ≤ em .at + 32) × (length (now (out .exit)) ≡ length (now (out .entry))) ⌝ }
@@ -125,7 +153,7 @@ fn conditions(em: X64Emitter, out: &mut [u8]) -> X64Emitter
 }
 
 // SUB RSP, ADD RSP, CALL RAX, RET.
-fn ends(em: X64Emitter, out: &mut [u8]) -> X64Emitter
+fn stack_call_and_return(em: X64Emitter, out: &mut [u8]) -> X64Emitter
     requires { ⌜ em .at + 32 ≤ length (now out) ⌝ }
     ensures { λ r. ⌜ (r .at ≤ em .at + 32) × (length (now (out .exit)) ≡ length (now (out .entry))) ⌝ }
 {
@@ -135,46 +163,66 @@ fn ends(em: X64Emitter, out: &mut [u8]) -> X64Emitter
     c.ret(out)
 }
 
-// The forms in the order of the table, to the comparisons.
-fn arithmetic(em: X64Emitter, out: &mut [u8]) -> X64Emitter
-    requires { ⌜ em .at + 192 ≤ length (now out) ⌝ }
-    ensures { λ r. ⌜ (r .at ≤ em .at + 192) × (length (now (out .exit)) ≡ length (now (out .entry))) ⌝ }
+// The forms in the order of the table: PUSH, POP, MOV, ADD, SUB.
+fn moves_and_sums(em: X64Emitter, out: &mut [u8]) -> X64Emitter
+    requires { ⌜ em .at + 128 ≤ length (now out) ⌝ }
+    ensures { λ r. ⌜ (r .at ≤ em .at + 128) × (length (now (out .exit)) ≡ length (now (out .entry))) ⌝ }
 {
     let a = pushes_and_pops(em, out);
     let b = moves(a, out);
     let c = additions(b, out);
-    let d = logic(c, out);
-    let e = logic_with_immediates(d, out);
-    compares(e, out)
+    subtractions(c, out)
 }
 
-// The rest of them.
-fn others(em: X64Emitter, out: &mut [u8]) -> X64Emitter
-    requires { ⌜ em .at + 192 ≤ length (now out) ⌝ }
-    ensures { λ r. ⌜ (r .at ≤ em .at + 192) × (length (now (out .exit)) ≡ length (now (out .entry))) ⌝ }
+// AND, OR, XOR, CMP.
+fn logic_and_comparisons(em: X64Emitter, out: &mut [u8]) -> X64Emitter
+    requires { ⌜ em .at + 128 ≤ length (now out) ⌝ }
+    ensures { λ r. ⌜ (r .at ≤ em .at + 128) × (length (now (out .exit)) ≡ length (now (out .entry))) ⌝ }
 {
-    let a = shifts_64(em, out);
-    let b = shifts_32_by_cl(a, out);
-    let c = shifts_32_by_imm8(b, out);
-    let d = products(c, out);
-    let e = conditions(d, out);
-    ends(e, out)
+    let a = ands_and_or(em, out);
+    let b = xors(a, out);
+    let c = or_and_with_immediates(b, out);
+    comparisons(c, out)
+}
+
+// SHL, SHR, SAR.
+fn shifts(em: X64Emitter, out: &mut [u8]) -> X64Emitter
+    requires { ⌜ em .at + 128 ≤ length (now out) ⌝ }
+    ensures { λ r. ⌜ (r .at ≤ em .at + 128) × (length (now (out .exit)) ≡ length (now (out .entry))) ⌝ }
+{
+    let a = shifts_64_by_cl(em, out);
+    let b = shifts_64_by_imm8(a, out);
+    let c = shifts_32_by_cl(b, out);
+    shifts_32_by_imm8(c, out)
+}
+
+// IMUL, MOVSXD, SETcc, MOVZX, CMOVcc, then the forms of a block's frame and end.
+fn others(em: X64Emitter, out: &mut [u8]) -> X64Emitter
+    requires { ⌜ em .at + 128 ≤ length (now out) ⌝ }
+    ensures { λ r. ⌜ (r .at ≤ em .at + 128) × (length (now (out .exit)) ≡ length (now (out .entry))) ⌝ }
+{
+    let a = products(em, out);
+    let b = sign_extension(a, out);
+    let c = conditions(b, out);
+    stack_call_and_return(c, out)
 }
 
 // How many bytes were written.
 fn all(out: &mut [u8]) -> usize
     ensures { λ r. ⌜ Counts r (now (out .exit)) ⌝ }
 {
-    if out.len() < 384 {
+    if out.len() < 512 {
         return 0;
     }
-    let a = arithmetic(X64Emitter::new(), out);
-    let b = others(a, out);
-    b.at
+    let a = moves_and_sums(X64Emitter::new(), out);
+    let b = logic_and_comparisons(a, out);
+    let c = shifts(b, out);
+    let d = others(c, out);
+    d.at
 }
 
 fn main() {
-    let mut out = [0u8; 384];
+    let mut out = [0u8; 512];
     let n = all(&mut out);
     io::write_all(STDOUT_FILENO, &out[..n]);
 }
