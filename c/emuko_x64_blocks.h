@@ -43,7 +43,7 @@ uint32_t emuko_word_kind(uint32_t instr);
  *     1                the limit is 0
  *     2 start          the start is odd
  *     3 index          the first instruction lacks its halfword of this index, 0 or 1
- *     4 word           the first word is not translated
+ *     4 word           the first word is not taken: neither translated nor handed to a helper
  *     5                the output has fewer than EMUKO_GREATEST_BLOCK bytes */
 emuko_reply emuko_translate(uint64_t start, uint32_t limit, const uint16_t *halfwords, size_t halfwords_len, uint64_t helper16,
                             uint64_t helper_mem, uint8_t *out, size_t out_len);

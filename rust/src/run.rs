@@ -7,7 +7,7 @@ use core::ops::Deref;
 /// What becomes of a word: document 01, "Words taken", numbered as document 02 does at Q-9.
 #[derive(Clone, Copy, Debug, PartialEq, Eq, Hash)]
 pub enum WordKind {
-    /// It is not translated: a block ends before it.
+    /// It is not taken, neither translated nor handed to a helper: a block ends before it.
     NotTaken = 0,
     /// The block goes on behind it.
     Straight = 1,

@@ -93,7 +93,7 @@ pub enum Refusal {
     OddStart(u64),
     /// 3: the first instruction lacks its halfword of this index, 0 or 1.
     MissingHalfword(u8),
-    /// 4: the first word, given here, is not translated.
+    /// 4: the first word, given here, is not taken: neither translated nor handed to a helper.
     NotTaken(u32),
     /// 5: the output has fewer than [`GREATEST_BLOCK`] bytes.
     OutputTooShort,
@@ -105,10 +105,10 @@ impl Refusal {
     /// ```
     /// use emuko_x64_blocks::{translate, Request};
     ///
-    /// // MULH is not translated.
+    /// // MULH is not taken.
     /// let refusal = translate(&Request::new(0x8000_0000, &[0x91B3, 0x0220]), &mut []).unwrap_err();
     /// assert_eq!(refusal.number(), 4);
-    /// assert_eq!(refusal.to_string(), "the first word, 0x022091b3, is not translated");
+    /// assert_eq!(refusal.to_string(), "the first word, 0x022091b3, is not taken");
     /// ```
     #[must_use]
     pub fn number(&self) -> u8 {
@@ -131,7 +131,7 @@ impl fmt::Display for Refusal {
                 write!(f, "the first instruction lacks halfword {index}")
             }
             Refusal::NotTaken(word) => {
-                write!(f, "the first word, {word:#010x}, is not translated")
+                write!(f, "the first word, {word:#010x}, is not taken")
             }
             Refusal::OutputTooShort => {
                 write!(f, "the output has fewer than {GREATEST_BLOCK} bytes")
@@ -160,7 +160,7 @@ impl Error for Refusal {}
 /// # Errors
 ///
 /// The [`Refusal`] that document 01's table of replies has for the request: a limit of 0, an odd start, a first instruction that is
-/// missing or not translated, an output of fewer than [`GREATEST_BLOCK`] bytes.
+/// missing or not taken, an output of fewer than [`GREATEST_BLOCK`] bytes.
 #[inline]
 pub fn translate<'o>(request: &Request<'_>, out: &'o mut [u8]) -> Result<Block<'o>, Refusal> {
     let halfwords = request.halfwords;

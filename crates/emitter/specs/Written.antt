@@ -1,4 +1,4 @@
--- What a contract says of bytes written into a lent output ("Vec pushes become writes into the lent output").
+-- What a contract says of bytes written into a lent output (document 01, "Forms that change").
 use mathlib.Core.Path.{_≡_}
 use mathlib.Core.List.{List}
 use Prim.Native.Nat.{ℕ, _+_, _≤_}

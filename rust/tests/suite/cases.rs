@@ -259,7 +259,7 @@ fn numbers_and_texts() {
         "the limit is 0",
         "the start, 0x3, is odd",
         "the first instruction lacks halfword 1",
-        "the first word, 0x00000073, is not translated",
+        "the first word, 0x00000073, is not taken",
         "the output has fewer than 2243 bytes",
     ];
     for (k, (refusal, text)) in refusals.iter().zip(texts).enumerate() {

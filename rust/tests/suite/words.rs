@@ -173,7 +173,7 @@ fn other(r: &mut Random, n: u64, but: &[u32]) -> u32 {
     }
 }
 
-/// A word that is not translated, of any sort.
+/// A word that is not taken, of any sort.
 pub fn not_taken(r: &mut Random) -> u32 {
     match r.below(14) {
         // The rest of M, and OP with a funct7 of no row.

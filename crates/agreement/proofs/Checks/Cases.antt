@@ -1,5 +1,5 @@
 -- The cases that document 01 marks P, those and no others: one list, and one Boolean test over it.
--- Document 01's words stand above each. The bytes are those that the original Rust wrote; `_` parts host instructions.
+-- Document 01's case stands above each. The bytes are those that the original Rust wrote; `_` parts host instructions.
 use mathlib.Core.Bool.{Bool, true, false, _&&_}
 use mathlib.Core.List.{List, [], _∷_, _++_}
 use Prim.Native.Nat.{ℕ, zero, suc, _-_, _/_, _%_, _^_}
@@ -95,50 +95,50 @@ words (w ∷ ws) = w % 65536 ∷ w / 65536 ∷ words ws
 
 unfoldable pub cases : List Case
 cases =
-    -- "top twelve bits 0x7FF, 0x800, 0xFFF give `imm_i` 2047, -2048, -1"; the other bits all 0, then all 1
+    -- top twelve bits 0x7FF, 0x800, 0xFFF give `imm_i` 2047, -2048, -1; the other bits all 0, then all 1
     immediate I 0x7FF00000 2047
     ∷ immediate I 0x7FFFFFFF 2047
     ∷ immediate I 0x80000000 (2 ^ 64 - 2048)
     ∷ immediate I 0x800FFFFF (2 ^ 64 - 2048)
     ∷ immediate I 0xFFF00000 (2 ^ 64 - 1)
     ∷ immediate I 0xFFFFFFFF (2 ^ 64 - 1)
-    -- "`imm_u` of 0x800000B7 is 0xFFFFFFFF80000000"
+    -- `imm_u` of 0x800000B7 is 0xFFFFFFFF80000000
     ∷ immediate U 0x800000B7 0xFFFFFFFF80000000
-    -- "`imm_b` of 0xFE000EE3 is -4"
+    -- `imm_b` of 0xFE000EE3 is -4
     ∷ immediate B 0xFE000EE3 (2 ^ 64 - 4)
-    -- "0x0000006F (JAL x0, 0): 67 bytes, count 1, RAX gets 0x80000000": 48B8 is MOV RAX, the number follows low byte first
+    -- 0x0000006F (JAL x0, 0): 67 bytes, count 1, RAX gets 0x80000000: 48B8 is MOV RAX, the number follows low byte first
     ∷ translation 0x80000000 64 (words (0x0000006F ∷ [])) 0 (67 ∷ 1 ∷ [])
     (framed (dump 20 0x48B80000008000000000_48BA0100000000000000))
-    -- "0x0000000F (FENCE) at 0xFFFFFFFFFFFFFFFC, limit 1: 67 bytes, RAX gets 0": the eight bytes behind 48B8
+    -- 0x0000000F (FENCE) at 0xFFFFFFFFFFFFFFFC, limit 1: 67 bytes, RAX gets 0: the eight bytes behind 48B8
     ∷ translation 0xFFFFFFFFFFFFFFFC 1 (words (0x0000000F ∷ [])) 0 (67 ∷ 1 ∷ [])
     (framed (dump 20 0x48B80000000000000000_48BA0100000000000000))
-    -- "0x00500093 (ADDI x1, x0, 5): 88 bytes, count 1"
+    -- 0x00500093 (ADDI x1, x0, 5): 88 bytes, count 1
     ∷ translation 0x80000000 64 (words (0x00500093 ∷ [])) 0 (88 ∷ 1 ∷ [])
     (framed (dump 41 0x4C8B9300000000_4981C205000000_4C899308000000_48B80400008000000000_48BA0100000000000000))
-    -- "Followed by 0x00000073 (ECALL): the same block"
+    -- Followed by 0x00000073 (ECALL): the same block
     ∷ same 0x80000000 64 (words (0x00500093 ∷ 0x00000073 ∷ [])) (words (0x00500093 ∷ []))
-    -- "0x00500093 then 0x022091B3 (MULH): 102 bytes, count 1. The two register loads of the refused word, 14 bytes, stay in"
+    -- 0x00500093 then 0x022091B3 (MULH): 102 bytes, count 1. the 14 bytes of MULH's two loads stay in
     ∷ translation 0x80000000 64 (words (0x00500093 ∷ 0x022091B3 ∷ [])) 0 (102 ∷ 1 ∷ [])
     (framed (dump 21 0x4C8B9300000000_4981C205000000_4C899308000000
     ++ dump 34 0x4C8B9308000000_4C8B9B10000000_48B80400008000000000_48BA0100000000000000))
-    -- "MULH first: number 4"
+    -- MULH first: number 4
     ∷ translation 0x80000000 64 (words (0x022091B3 ∷ [])) 4 (0x022091B3 ∷ []) []
-    -- "0x00500093 then halfword 0x0001: 116 bytes, count 2"
+    -- 0x00500093 then halfword 0x0001: 116 bytes, count 2
     ∷ translation 0x80000000 64 (words (0x00500093 ∷ []) ++ 0x0001 ∷ []) 0 (116 ∷ 2 ∷ [])
     (framed (dump 21 0x4C8B9300000000_4981C205000000_4C899308000000
     ++ dump 48 0x4C89E7_4C89EE_4C89F2_48B90100000000000000_49B80400008000000000_48B80000000000000000_FFD0_4881C201000000))
-    -- "0x03F09093 (SLLI by 63): 85 bytes"
+    -- 0x03F09093 (SLLI by 63): 85 bytes
     ∷ translation 0x80000000 64 (words (0x03F09093 ∷ [])) 0 (85 ∷ 1 ∷ [])
     (framed (dump 38 0x4C8B9308000000_49C1E23F_4C899308000000_48B80400008000000000_48BA0100000000000000))
-    -- "0x0200909B (SLLIW by 32): number 4"
+    -- 0x0200909B (SLLIW by 32): number 4
     ∷ translation 0x80000000 64 (words (0x0200909B ∷ [])) 4 (0x0200909B ∷ []) []
-    -- "0x00009067 (JALR x0, x1 with funct3 1): 81 bytes"
+    -- 0x00009067 (JALR x0, x1 with funct3 1): 81 bytes
     ∷ translation 0x80000000 64 (words (0x00009067 ∷ [])) 0 (81 ∷ 1 ∷ [])
     (framed (dump 34 0x4C8B9308000000_4981C200000000_4981E2FEFFFFFF_4C89D0_48BA0100000000000000))
-    -- "sixty-four times 0x002091BB (SLLW): 2,243 bytes"
+    -- sixty-four times 0x002091BB (SLLW): 2,243 bytes
     ∷ translation 0x80000000 64 (copies 64 (words (0x002091BB ∷ []))) 0 (2243 ∷ 64 ∷ [])
     (framed (copies 64 (dump 34 0x4C8B9308000000_4C8B9B10000000_4C89D9_4883E11F_41D3E2_4D63D2_4C899318000000)
     ++ dump 20 0x48B80001008000000000_48BA4000000000000000))
-    -- "used 5, code 67, store 75: offset 8, used 75. Store 74: number 7"
+    -- used 5, code 67, store 75: offset 8, used 75. Store 74: number 7
     ∷ placing 5 67 75 0 (8 ∷ 75 ∷ [])
     ∷ placing 5 67 74 7 [] ∷ []

@@ -1,5 +1,5 @@
 -- The manual's run. Document 01, "The manual's run in demand 3", "Words taken" and "Replies"; meanings from the manual.
--- It knows of no translator and no host: it is fed a turn's limit, halfwords and output length, and what a helper left.
+-- It uses no definition of the translator or the host: it is fed a turn's limit, halfwords and output length, and what a helper left.
 use mathlib.Core.Bool.{Bool, true, false, cond, _||_}
 use mathlib.Core.List.{List, [], _∷_, _++_}
 use mathlib.Core.Option.{Option, none, some}
@@ -47,7 +47,8 @@ reservedRows = row JALR 0x67 anyThree anyTop ∷ []
 unfoldable pub taken : ℕ → Instruction
 taken w = findIn (chosenRows listing ++ reservedRows) w
 
--- an instruction of 16 bits has low two bits that are not 3 ("Base Instruction-Length Encoding")
+-- an instruction of 16 bits has low two bits that are not 3 ("Base Instruction-Length Encoding"); all others are read as
+-- words of 32 bits
 unfoldable pub isLong : ℕ → Bool
 isLong h = eqb (h % 4) 3
 

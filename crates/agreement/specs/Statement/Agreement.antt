@@ -60,7 +60,7 @@ unfoldable pub own : Turn → ℕ → Bool
 own t x = inSlots t x || (inSaved t x || inReturn t x)
 
 -- every entry: at the manual's pc with the manual's registers; slot x0 zero, at entry and at return; back to the address that
--- stands at the entry stack pointer, the stack pointer 8 higher, the psABI's saved registers as at entry; a step an
+-- stands at the entry stack pointer, the stack pointer 8 higher, the psABI's saved registers as at entry; one step for each
 -- instruction of the block
 pub record Returns (t : Turn) (m : GuestState) (pc : ℕ) (v : Visit) : Type 0 where
   pub accepted : isRefused t m ≡ false
@@ -88,7 +88,7 @@ pub record Plain (t : Turn) (n : ℕ) (v : Visit) (q : Read) : Type 0 where
   pub rest : (x : ℕ) → own t x ≡ false → v .exit .mem x ≡ v .entry .mem x
   pub count : n ≡ q .added
 
--- "the pair's first address for a halfword, its second for a load or store"
+-- document 01, "Block bytes": the pair's first address for a halfword, its second for a load or store
 abbrev pub helperOf : Turn → Helper → ℕ
 helperOf t forHalfword = t .helper16
 helperOf t forAccess = t .helperMem
@@ -159,7 +159,8 @@ pub record Agrees (pc : ℕ) (rb : RegisterBytes) (ts : List Turn) : Type 0 wher
   -- and on the way each turn is as the manual's run has it
   pub along : Along (start pc rb) ts events
 
--- The theorem: for every first pc, all register bytes whose slot x0 is zero, and every list of turns
+-- The theorem: for every first pc below 2^64, all register bytes whose slot x0 is zero, and every list of turns that meets
+-- the premises
 unfoldable pub Agreement : Type 0
 Agreement =
     (pc : ℕ) (rb : RegisterBytes) (ts : List Turn)

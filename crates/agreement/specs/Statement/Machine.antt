@@ -1,5 +1,5 @@
 -- What the machine does over a list of turns: a translation at the pc, then one entry of its block on the x86 model.
--- No guest register and no manual stand here. Document 01, demand 3 and "Memory and helpers in demand 3".
+-- No register number of the guest and no meaning of an instruction stand here. Document 01, demand 3 and "Memory and helpers in demand 3".
 use mathlib.Core.Path.{_≡_}
 use mathlib.Core.List.{List, [], _∷_, _++_}
 use mathlib.Core.Option.{Option, none, some}

@@ -1,7 +1,7 @@
 -- What is asked of a list of turns. Document 01, "Memory and helpers in demand 3".
 -- Layout and helper are asked for along the history only: where a block is entered, at the pc and with the register
 -- bytes that the history has there, and of the helper in the state in which the block's own CALL enters it.
--- "The call of a helper meets no fault": CALL fails in this model on its push alone, and the helper is a function. That the
+-- The call of a helper meets no fault: CALL fails in this model on its push alone, and the helper is a function. That the
 -- return address is canonical, as a RET asks on the processor, is not modelled.
 use mathlib.Core.Path.{_≡_}
 use mathlib.Core.Bool.{true}

@@ -38,7 +38,7 @@ jumps is = record { code = is; added = 1; end = jumped }
 abbrev pub before : List Instr → Walked → Walked
 before is p = record { code = is ++ p .code; added = suc (p .added); end = p .end }
 
--- a word that is not taken leaves its loads, counts nothing, and the block goes on at its pc
+-- a word that is not taken leaves its loads, counts nothing, and ends the block; RAX gets its pc
 abbrev pub notTakenAt : ℕ → ℕ → Walked
 notTakenAt pc w = record { code = leftover (opcode w) (rs1 w) (rs2 w); added = 0; end = goesOn pc }
 

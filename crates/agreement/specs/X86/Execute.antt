@@ -95,7 +95,7 @@ module _ (undefined : State → Flags) where
       let b : ℕ = s .regs r % 2 ^ w in
       withBoth (set (s .regs) d (s .regs d * s .regs r % 2 ^ w)) (imulFlags w a b (undefined s)) s
 
-  -- "IF OperandSize is 64: countMASK := 3FH, ELSE 1FH": a count is taken modulo the operand size.
+  -- "IF OperandSize = 64 THEN countMASK := 3FH; ELSE countMASK := 1FH; FI": a count is taken modulo the operand size.
   -- SETcc writes AL, the low byte of RAX, alone. CMOVcc with a false condition leaves a 64-bit destination as it is.
   unfoldable pub exec : Instr → State → State
   exec (push r) s = withReg RSP (below s) (storing (below s) (s .regs r) s)

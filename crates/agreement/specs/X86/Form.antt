@@ -1,7 +1,7 @@
 -- The host's instruction forms (Intel SDM volume 2), in families that contain what the Rust's 42 encoders write.
 use Prim.Native.Nat.{ℕ, _^_, _<_}
 
--- registers by number ("Registers", REX extends to 8 to 15)
+-- registers by number ("REX Prefixes" extend them to 8 to 15)
 abbrev pub RAX : ℕ
 RAX = 0
 
