@@ -1,3 +1,4 @@
+-- The held bytes are the code: the first copy put it at the array's beginning, and the second takes it from there.
 use mathlib.Core.Path.{sym, ap, _∙_}
 use native.Mathlib.Omega.{arith}
 use lib.ListN.{length}
@@ -8,20 +9,23 @@ use Rattle.store.proofs.copy_at.Tie as tie
 
 slice-aggregate-copy-bytes-2 : tie.Need-slice-aggregate-copy-bytes-2
 slice-aggregate-copy-bytes-2 c =
-    let a = c .before .before .before .before .before .before .before .args in
-    sym (ap length (at-beginning (a .code .now) _ (c .before .before .copy-bytes .ensures)))
+    let held = c .before .before in
+    let start = held .before .before .before .before .before in
+    sym (ap length (at-beginning (start .args .code .now) _ (held .copy-bytes .ensures)))
 
 copy-bytes-requires-2 : tie.Need-copy-bytes-requires-2
 copy-bytes-requires-2 c κs =
-    let a = c .before .before .before .before .before .before .before .before .args in
-    omega (arith, ap length (at-beginning (a .code .now) _ (c .before .before .before .copy-bytes .ensures)))
+    let held = c .before .before .before in
+    let start = held .before .before .before .before .before in
+    omega (arith, ap length (at-beginning (start .args .code .now) _ (held .copy-bytes .ensures)))
 
 returns : tie.Need-returns
 returns c =
-    let a = c .before .before .before .before .before .before .before .before .before .before .before .args in
-    c .before .before .copy-bytes2 .ensures
-    ∙ ap (withCode (a .store .now) (a .offset))
-    (at-beginning (a .code .now) _ (c .before .before .before .before .before .before .copy-bytes .ensures))
+    let copied = c .before .before in
+    let held = copied .before .before .before .before in
+    let start = held .before .before .before .before .before in
+    copied .copy-bytes2 .ensures
+    ∙ ap (withCode (start .args .store .now) (start .args .offset)) (at-beginning (start .args .code .now) _ (held .copy-bytes .ensures))
 
 pub copy-at-spec : {M : Type 1} → statement M
 copy-at-spec =

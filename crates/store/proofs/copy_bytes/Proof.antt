@@ -1,3 +1,4 @@
+-- The loop has copied the code's bytes up to its index.
 use Prim.Native.Nat.{_-_}
 use native.Mathlib.Omega.{arith}
 use lib.ListN.{length}

@@ -1,35 +1,33 @@
+-- Each way out is a case of the definition.
 use native.Mathlib.Omega.{arith}
 use Rattle.store.proofs.PlacingLaws.{is-beyond, is-full, is-placed}
 use borrow.Author.Needs.{needs}
 use Rattle.store.proofs.place.Statement.{statement}
 use Rattle.store.proofs.place.Tie as tie
 
-returns : tie.Need-returns
-returns c = is-beyond _ _ _ (c .if1 .taken)
+beyond : tie.Need-returns
+beyond c = is-beyond _ _ _ (c .if1 .taken)
 
-returns-2 : tie.Need-returns-2
-returns-2 c = is-full _ _ (c .before .before .before .before .args .used) (omega arith) (omega arith)
+no-room-for-padding : tie.Need-returns-2
+no-room-for-padding c = is-full _ _ _ (omega arith) (omega arith)
 
-returns-3 : tie.Need-returns-3
-returns-3 c = is-full _ _ (c .before .before .before .before .before .args .used) (omega arith) (omega arith)
+no-room-for-code : tie.Need-returns-3
+no-room-for-code c = is-full _ _ _ (omega arith) (omega arith)
 
-returns-4 : tie.Need-returns-4
-returns-4 c =
-    let a = c .before .before .before .before .before .before .before .before .before .args in
-    is-placed (a .code .now) (a .store .now) _ (a .used) _ _ (omega arith) (omega arith) (omega arith) (omega arith)
-    (c .before .before .copy-at .ensures)
+placed : tie.Need-returns-4
+placed c = is-placed _ _ _ _ _ _ (omega arith) (omega arith) (omega arith) (omega arith) (c .before .before .copy-at .ensures)
 
 pub place-spec : {M : Type 1} → statement M
 place-spec =
     tie.close
     (tie.spec
-    returns
+    beyond
     (λ c. search needs)
     (λ c. search needs)
-    returns-2
-    returns-3
+    no-room-for-padding
+    no-room-for-code
     (λ c. search needs)
     (λ c. search needs)
     (λ c κs. search needs)
     (λ c. search needs)
-    returns-4)
+    placed)

@@ -1,3 +1,4 @@
+-- The block is the translation's of the halfwords that were read.
 use mathlib.Core.Path.{sym}
 use native.Mathlib.Omega.{arith}
 use lib.Seq.{length-take-le}
@@ -10,10 +11,10 @@ returns : tie.Need-returns
 returns c =
     let translating = c .before .before .before in
     let reading = translating .before .before .before .before in
-    let T = translating .translate .ensures in
-    let r = translating .translate .result in (
-      written-is r _ (c .block-length .ensures) (rw (reading .read-halfwords .ensures .0) at (T .0)),
-      counted _ r _ (c .block-length .ensures) (T .1),
+    let answer = translating .translate .result in
+    let answers = translating .translate .ensures in (
+      written-is answer _ (c .block-length .ensures) (rw (reading .read-halfwords .ensures .0) at (answers .0)),
+      counted _ answer _ (c .block-length .ensures) (answers .1),
     )
 
 pub block-of-spec : {M : Type 1} → statement M

@@ -34,15 +34,17 @@ read-halfwords-spec =
     (λ c. search needs)
     (λ c. search needs)
     (λ c.
-    let L = c .before .before .before .before .loop in
-    let code = c .before .before .before .before .before .before .before .args .code .now in (
+    let turn = c .before .before .before .before in
+    let code = turn .before .before .before .args .code .now in
+    let read = turn .loop in (
       omega arith,
-      L .inv .1,
+      read .inv .1,
       search needs,
-      one-more (L .halfwords) code (L .i) _ (omega arith) (omega arith) (c .low-and-high .ensures) (L .inv .3),
+      one-more (read .halfwords) code (read .i) _ (omega arith) (omega arith) (c .low-and-high .ensures) (read .inv .3),
     ))
     (λ c. search needs)
     (λ c.
-    let L = c .before .loop in
-    let code = c .before .before .before .before .args .code .now in
-    (all-read _ code (L .i) _ (L .inv .0) (c .loop-test .left) refl (L .inv .3), omega arith)))
+    let turn = c .before in
+    let code = turn .before .before .before .args .code .now in
+    let read = turn .loop in
+    (all-read _ code (read .i) _ (read .inv .0) (c .loop-test .left) refl (read .inv .3), omega arith)))

@@ -23,8 +23,9 @@ emit-mem-sib-requires c κs =
 
 returns : tie.Need-returns
 returns c =
-    let a = c .before .before .before .before .before .before .args in
-    rw (with-sib (a .reg-field) (a .base) (a .disp) (omega arith)) (c .before .before .emit-mem-sib .ensures)
+    let emitting = c .before .before in
+    let start = emitting .before .before .before .before in
+    rw (with-sib (start .args .reg-field) (start .args .base) (start .args .disp) (omega arith)) (emitting .emit-mem-sib .ensures)
 
 emit-mem-plain-requires : tie.Need-emit-mem-plain-requires
 emit-mem-plain-requires c κs =
@@ -33,8 +34,9 @@ emit-mem-plain-requires c κs =
 
 returns-2 : tie.Need-returns-2
 returns-2 c =
-    let a = c .before .before .before .before .before .before .args in
-    rw (without (a .reg-field) (a .base) (a .disp) (omega arith)) (c .before .before .emit-mem-plain .ensures)
+    let emitting = c .before .before in
+    let start = emitting .before .before .before .before in
+    rw (without (start .args .reg-field) (start .args .base) (start .args .disp) (omega arith)) (emitting .emit-mem-plain .ensures)
 
 pub emit-mem-disp32-spec : {M : Type 1} → statement M
 emit-mem-disp32-spec =

@@ -8,17 +8,17 @@ use Rattle.requests.proofs.fields.behind.Tie as tie
 
 behind-a-space : tie.Need-returns
 unfolding indexBehind
-behind-a-space c = simp (c .before .before .before .if1 .taken, eq-eqb _ _ (c .if3 .taken))
+behind-a-space c = let number = c .before .before .before in simp (number .if1 .taken, eq-eqb _ _ (c .if3 .taken))
 
 at-another-byte : tie.Need-returns-2
 unfolding indexBehind
-at-another-byte c = simp (c .before .before .before .if1 .taken, ne-eqb _ _ (c .if3 .left))
+at-another-byte c = let number = c .before .before .before in simp (number .if1 .taken, ne-eqb _ _ (c .if3 .left))
 
 at-the-end : tie.Need-returns-3
 unfolding indexBehind
 at-the-end c =
-    let line = c .before .before .args .line .now in
-    simp (c .before .if1 .taken, List·getD-eq-default line 0 (c .if2 .left))
+    let number = c .before in
+    simp (number .if1 .taken, List·getD-eq-default (number .before .args .line .now) 0 (c .if2 .left))
 
 no-number : tie.Need-returns-4
 unfolding indexBehind

@@ -16,10 +16,7 @@ abbrev μ-loop : tie.MeasureT-loop
 -- with one more digit the number still has 64 bits
 grown : tie.Need-add-value Inv-loop μ-loop
 grown c =
-    let turn = c .before .before .before .before .before in
-    record {
-      fits = fits (turn .before .before .args .base) (turn .loop .value) (c .before .before .digit .result) (search needs) (search needs) (c .if2 .left);
-    }
+    record { fits = fits _ _ _ (search needs) (search needs) (c .if2 .left) }
 
 pub number-spec : {M : Type 1} → statement M
 number-spec =
@@ -31,17 +28,19 @@ number-spec =
     (λ c. search needs)
     (λ c κs. search needs)
     (λ c. search needs)
-    (λ c. let turn = c .before .before .before .before in
-    at-another-byte (turn .loop .inv) (record { within = search needs; digit = c .before .digit .ensures }) (search needs))
+    (λ c. let reading = c .before in
+    let turn = reading .before .before .before in
+    at-another-byte (turn .loop .inv) (record { within = search needs; digit = reading .digit .ensures }) (search needs))
     (λ c. search needs)
     (λ c. search needs)
-    (λ c. let turn = c .before .before .before .before .before in
-    at-one-too-many (turn .loop .inv) (record { within = search needs; digit = c .before .before .digit .ensures }) (search needs)
-    (search needs))
+    (λ c. let reading = c .before .before in
+    let turn = reading .before .before .before in
+    at-one-too-many (turn .loop .inv) (record { within = search needs; digit = reading .digit .ensures }) (search needs) (search needs))
     (λ c. record { fits = omega (arith, grown c .fits) })
     grown
     (λ c. search needs)
     (λ c. search needs)
-    (λ c. let turn = c .before .before .before .before .before in
-    at-a-digit (turn .loop .inv) (record { within = search needs; digit = c .before .before .digit .ensures }) (search needs) (grown c .fits))
+    (λ c. let reading = c .before .before in
+    let turn = reading .before .before .before in
+    at-a-digit (turn .loop .inv) (record { within = search needs; digit = reading .digit .ensures }) (search needs) (grown c .fits))
     (λ c. at-the-end (c .before .loop .inv) (search needs)))
