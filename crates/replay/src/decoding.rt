@@ -41,7 +41,7 @@ fn print_fields(word: u32) {
     print_unsigned(d.imm12 as u64);
 }
 
-// Whether the line is a request.
+// Writes the reply to a request; whether the line is one.
 pub fn reply(line: &[u8]) -> bool
     ensures { λ r. ⌜ r ≡ isDecoding (now (line .entry)) ⌝ }
 {

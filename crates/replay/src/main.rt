@@ -20,7 +20,7 @@ use libc::STDOUT_FILENO;
 ghost use mathlib.Core.Path.{_≡_};
 ghost use lib.ListN.{length};
 
-// Whether the line is a request.
+// Writes the reply to a request; whether the line is one.
 fn reply(line: &[u8]) -> bool {
     if line.len() < 2 {
         return false;

@@ -5,6 +5,7 @@ ghost use mathlib.Core.Path.{_≡_};
 ghost use Prim.Native.Nat.{_≤_};
 ghost use Rattle.requests.specs.Lines.{isPlacing};
 
+// Another period than the store's pattern has, so that code at a wrong offset is seen.
 fn code_byte(i: usize) -> u8 {
     255 - (i % 241) as u8
 }
@@ -79,7 +80,7 @@ fn lend(asked: requests::Placing)
     answer(asked.used, &mut code[..n], &mut store[..room]);
 }
 
-// Whether the line is a request.
+// Writes the reply to a request; whether the line is one.
 pub fn reply(line: &[u8]) -> bool
     ensures { λ r. ⌜ r ≡ isPlacing (now (line .entry)) ⌝ }
 {

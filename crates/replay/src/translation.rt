@@ -101,7 +101,7 @@ fn lend(asked: Translation, halfwords: &[u16])
     answer(asked, halfwords, &mut out[..room]);
 }
 
-// Whether the line is a request.
+// Writes the reply to a request; whether the line is one.
 pub fn reply(line: &[u8]) -> bool
     ensures { λ r. ⌜ r ≡ isTranslation 2048 (now (line .entry)) ⌝ }
 {
