@@ -9,21 +9,21 @@ use Rattle.store.proofs.copy_at.Tie as tie
 
 slice-aggregate-copy-bytes-2 : tie.Need-slice-aggregate-copy-bytes-2
 slice-aggregate-copy-bytes-2 c =
-    let held = c .before .before in
-    let start = held .before .before .before .before .before in
+    let held : tie.After-copy-bytes = search in
+    let start : tie.Start = search in
     sym (ap length (at-beginning (start .args .code .now) _ (held .copy-bytes .ensures)))
 
 copy-bytes-requires-2 : tie.Need-copy-bytes-requires-2
 copy-bytes-requires-2 c κs =
-    let held = c .before .before .before in
-    let start = held .before .before .before .before .before in
+    let held : tie.After-copy-bytes = search in
+    let start : tie.Start = search in
     omega (arith, ap length (at-beginning (start .args .code .now) _ (held .copy-bytes .ensures)))
 
 returns : tie.Need-returns
 returns c =
-    let copied = c .before .before in
-    let held = copied .before .before .before .before in
-    let start = held .before .before .before .before .before in
+    let copied : tie.After-copy-bytes2 = search in
+    let held : tie.After-copy-bytes = search in
+    let start : tie.Start = search in
     copied .copy-bytes2 .ensures
     ∙ ap (withCode (start .args .store .now) (start .args .offset)) (at-beginning (start .args .code .now) _ (held .copy-bytes .ensures))
 

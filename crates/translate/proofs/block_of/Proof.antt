@@ -9,8 +9,8 @@ use Rattle.translate.proofs.block_of.Tie as tie
 
 returns : tie.Need-returns
 returns c =
-    let translating = c .before .before .before in
-    let reading = translating .before .before .before .before in
+    let translating : tie.After-translate = search in
+    let reading : tie.After-read-halfwords = search in
     let answer = translating .translate .result in
     let answers = translating .translate .ensures in (
       written-is answer _ (c .block-length .ensures) (rw (reading .read-halfwords .ensures .0) at (answers .0)),

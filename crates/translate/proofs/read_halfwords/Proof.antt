@@ -16,6 +16,13 @@ Inv-loop code halfwords₀ n i₀ halfwords i =
 abbrev μ-loop : tie.MeasureT-loop
 μ-loop code halfwords₀ n i₀ halfwords i = n - i
 
+-- the steps that two answers cite
+abbrev Looping : Type 0
+Looping = tie.At-loop Inv-loop μ-loop
+
+abbrev Starting : Type 0
+Starting = tie.Start Inv-loop μ-loop
+
 pub read-halfwords-spec : {M : Type 1} → statement M
 read-halfwords-spec =
     tie.close
@@ -34,8 +41,9 @@ read-halfwords-spec =
     (λ c. search needs)
     (λ c. search needs)
     (λ c.
-    let turn = c .before .before .before .before in
-    let code = turn .before .before .before .args .code .now in
+    let turn : Looping = search in
+    let start : Starting = search in
+    let code = start .args .code .now in
     let read = turn .loop in (
       omega arith,
       read .inv .1,
@@ -44,7 +52,8 @@ read-halfwords-spec =
     ))
     (λ c. search needs)
     (λ c.
-    let turn = c .before in
-    let code = turn .before .before .before .args .code .now in
+    let turn : Looping = search in
+    let start : Starting = search in
+    let code = start .args .code .now in
     let read = turn .loop in
     (all-read _ code (read .i) _ (read .inv .0) (c .loop-test .left) refl (read .inv .3), omega arith)))

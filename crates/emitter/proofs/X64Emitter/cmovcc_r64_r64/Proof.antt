@@ -3,7 +3,7 @@ use Rattle.emitter.proofs.X64Emitter.cmovcc_r64_r64.Statement.{statemen
 use Rattle.emitter.proofs.X64Emitter.cmovcc_r64_r64.Tie as tie
 
 returns : tie.Need-returns
-returns c = let number = c .before .before .before in rw (← (number .cc-number .ensures .0)) (search needs)
+returns c = let number : tie.After-cc-number = search in rw (← (number .cc-number .ensures .0)) (search needs)
 
 pub cmovcc-r64-r64-spec : {M : Type 1} → statement M
 cmovcc-r64-r64-spec = tie.close (tie.spec (λ c κs. search needs) (λ c κs. search needs) (λ c. search needs) returns)

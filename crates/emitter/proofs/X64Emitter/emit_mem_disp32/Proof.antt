@@ -18,24 +18,24 @@ without r b d e = rw (ne-eqb (b % 8) 4 e) refl
 
 emit-mem-sib-requires : tie.Need-emit-mem-sib-requires
 emit-mem-sib-requires c κs =
-    let start = c .before .before .before in
+    let start : tie.Start = search in
     rw (with-sib (start .args .reg-field) (start .args .base) (start .args .disp) (omega arith)) at (start .pre)
 
 returns : tie.Need-returns
 returns c =
-    let emitting = c .before .before in
-    let start = emitting .before .before .before .before in
+    let emitting : tie.After-emit-mem-sib = search in
+    let start : tie.Start = search in
     rw (with-sib (start .args .reg-field) (start .args .base) (start .args .disp) (omega arith)) (emitting .emit-mem-sib .ensures)
 
 emit-mem-plain-requires : tie.Need-emit-mem-plain-requires
 emit-mem-plain-requires c κs =
-    let start = c .before .before .before in
+    let start : tie.Start = search in
     rw (without (start .args .reg-field) (start .args .base) (start .args .disp) (omega arith)) at (start .pre)
 
 returns-2 : tie.Need-returns-2
 returns-2 c =
-    let emitting = c .before .before in
-    let start = emitting .before .before .before .before in
+    let emitting : tie.After-emit-mem-plain = search in
+    let start : tie.Start = search in
     rw (without (start .args .reg-field) (start .args .base) (start .args .disp) (omega arith)) (emitting .emit-mem-plain .ensures)
 
 pub emit-mem-disp32-spec : {M : Type 1} → statement M

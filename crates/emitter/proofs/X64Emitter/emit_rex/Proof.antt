@@ -8,22 +8,25 @@ use Rattle.emitter.proofs.X64Emitter.emit_rex.Tie as tie
 
 left-out : tie.Need-returns
 left-out c =
-    let byte = c .before in
-    let a = byte .before .before .args in
+    let start : tie.Start = search in
+    let byte : tie.After-rex-w = search in
+    let a = start .args in
     rw (bare (a .w) (a .r) (a .x) (a .b) (omega (arith, byte .rex-w .ensures .0, c .if1 .taken))) none
 
 room-for-the-byte : tie.Need-emit-u8-requires
 room-for-the-byte c κs =
-    let byte = c .before .before in
-    let start = byte .before .before in
+    let start : tie.Start = search in
+    let byte : tie.After-rex-w = search in
+    let tested : tie.Else1 = search in
     let a = start .args in
-    rw (shown (a .w) (a .r) (a .x) (a .b) (λ e. c .before .if1 .left (omega (arith, e, byte .rex-w .ensures .0)))) at (start .pre .3)
+    rw (shown (a .w) (a .r) (a .x) (a .b) (λ e. tested .if1 .left (omega (arith, e, byte .rex-w .ensures .0)))) at (start .pre .3)
 
 written : tie.Need-returns-2
 written c =
-    let tested = c .before .before .before .before in
-    let byte = tested .before in
-    let a = byte .before .before .args in
+    let start : tie.Start = search in
+    let byte : tie.After-rex-w = search in
+    let tested : tie.Else1 = search in
+    let a = start .args in
     let w = byte .rex-w .ensures .0 in
     rw (shown (a .w) (a .r) (a .x) (a .b) (λ e. tested .if1 .left (omega (arith, e, w))), ← w) (search needs)
 

@@ -10,5 +10,5 @@ reply-spec =
     (λ c κs. search needs)
     (λ c κs. search needs)
     (λ c κs. search needs)
-    (λ c. let printing = c .before .before in rw (printing .before .read-decoding .ensures))
+    (λ c. let asked : tie.After-read-decoding = search in rw (asked .read-decoding .ensures))
     (λ c. rw (c .before .read-decoding .ensures)))

@@ -10,5 +10,5 @@ reply-spec =
     (tie.spec
     (λ c κs. search needs)
     (λ c κs. let read = c .before .read-placing .ensures in (code-fits _ read (c .if1 .taken), store-fits _ read (c .if1 .taken)))
-    (λ c. rw (c .before .before .read-placing .ensures))
+    (λ c. let asked : tie.After-read-placing = search in rw (asked .read-placing .ensures))
     (λ c. rw (c .before .read-placing .ensures)))

@@ -10,5 +10,5 @@ is-decoding-spec =
     tie.close
     (tie.spec
     (λ c κs. search needs)
-    (λ c. rw (← c .before .before .is-last .ensures, c .before .if1 .taken))
+    (λ c. let last : tie.After-is-last = search in rw (← last .is-last .ensures, c .before .if1 .taken))
     (λ c. rw (← c .before .is-last .ensures, c .if1 .left)))

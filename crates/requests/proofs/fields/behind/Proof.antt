@@ -8,11 +8,11 @@ use Rattle.requests.proofs.fields.behind.Tie as tie
 
 behind-a-space : tie.Need-returns
 unfolding indexBehind
-behind-a-space c = let number = c .before .before .before in simp (number .if1 .taken, eq-eqb _ _ (c .if3 .taken))
+behind-a-space c = let number : tie.Then1 = search in simp (number .if1 .taken, eq-eqb _ _ (c .if3 .taken))
 
 at-another-byte : tie.Need-returns-2
 unfolding indexBehind
-at-another-byte c = let number = c .before .before .before in simp (number .if1 .taken, ne-eqb _ _ (c .if3 .left))
+at-another-byte c = let number : tie.Then1 = search in simp (number .if1 .taken, ne-eqb _ _ (c .if3 .left))
 
 at-the-end : tie.Need-returns-3
 unfolding indexBehind

@@ -13,6 +13,13 @@ Inv-loop base line from value₀ at₀ value at = Read base line from value at
 abbrev μ-loop : tie.MeasureT-loop
 μ-loop base line from value₀ at₀ value at = length line - at
 
+-- the steps that several answers cite
+abbrev Looping : Type 0
+Looping = tie.At-loop Inv-loop μ-loop
+
+abbrev Reading : Type 0
+Reading = tie.After-digit Inv-loop μ-loop
+
 -- with one more digit the number still has 64 bits
 grown : tie.Need-add-value Inv-loop μ-loop
 grown c =
@@ -28,19 +35,22 @@ number-spec =
     (λ c. search needs)
     (λ c κs. search needs)
     (λ c. search needs)
-    (λ c. let reading = c .before in
-    let turn = reading .before .before .before in
-    at-another-byte (turn .loop .inv) (record { within = search needs; digit = reading .digit .ensures }) (search needs))
+    (λ c.
+    let looping : Looping = search in
+    let reading : Reading = search in
+    at-another-byte (looping .loop .inv) (record { within = search needs; digit = reading .digit .ensures }) (search needs))
     (λ c. search needs)
     (λ c. search needs)
-    (λ c. let reading = c .before .before in
-    let turn = reading .before .before .before in
-    at-one-too-many (turn .loop .inv) (record { within = search needs; digit = reading .digit .ensures }) (search needs) (search needs))
+    (λ c.
+    let looping : Looping = search in
+    let reading : Reading = search in
+    at-one-too-many (looping .loop .inv) (record { within = search needs; digit = reading .digit .ensures }) (search needs) (search needs))
     (λ c. record { fits = omega (arith, grown c .fits) })
     grown
     (λ c. search needs)
     (λ c. search needs)
-    (λ c. let reading = c .before .before in
-    let turn = reading .before .before .before in
-    at-a-digit (turn .loop .inv) (record { within = search needs; digit = reading .digit .ensures }) (search needs) (grown c .fits))
+    (λ c.
+    let looping : Looping = search in
+    let reading : Reading = search in
+    at-a-digit (looping .loop .inv) (record { within = search needs; digit = reading .digit .ensures }) (search needs) (grown c .fits))
     (λ c. at-the-end (c .before .loop .inv) (search needs)))

@@ -14,37 +14,49 @@ Inv-loop line from halfwords₀ n₀ at₀ halfwords n at = Read (length halfwor
 abbrev μ-loop : tie.MeasureT-loop
 μ-loop line from halfwords₀ n₀ at₀ halfwords n at = length halfwords₀ - n
 
+-- the steps that several answers cite
+abbrev Looping : Type 0
+Looping = tie.At-loop Inv-loop μ-loop
+
+abbrev Reading : Type 0
+Reading = tie.After-hexadecimal Inv-loop μ-loop
+
 -- fewer digits than none, which there cannot be
 before-the-index : tie.Need-returns Inv-loop μ-loop
 before-the-index c =
-    let reading = c .before .before in
-    reads-none (no-halfword (reading .before .before .loop .inv) (reading .hexadecimal .ensures) (search needs) (λ e. omega arith))
+    let looping : Looping = search in
+    let reading : Reading = search in
+    reads-none (no-halfword (looping .loop .inv) (reading .hexadecimal .ensures) (search needs) (λ e. omega arith))
     (c .no-list .ensures)
 
 other-digits : tie.Need-returns-2 Inv-loop μ-loop
 other-digits c =
-    let reading = c .before .before .before in
-    reads-none (no-halfword (reading .before .before .loop .inv) (reading .hexadecimal .ensures) (search needs)
+    let looping : Looping = search in
+    let reading : Reading = search in
+    reads-none (no-halfword (looping .loop .inv) (reading .hexadecimal .ensures) (search needs)
     (λ e. c .before .if2 .taken (omega arith)))
     (c .no-list2 .ensures)
 
 last-halfword : tie.Need-returns-3 Inv-loop μ-loop
 last-halfword c =
-    let reading = c .before .before .before .before in
-    reads-found (at-the-end (reading .before .before .loop .inv) (reading .hexadecimal .ensures) (search needs) (omega arith) (search needs))
+    let looping : Looping = search in
+    let reading : Reading = search in
+    reads-found (at-the-end (looping .loop .inv) (reading .hexadecimal .ensures) (search needs) (omega arith) (search needs))
     (rw length-set (search needs))
 
 no-comma : tie.Need-returns-4 Inv-loop μ-loop
 no-comma c =
-    let reading = c .before .before .before .before .before .before .before in
-    reads-none (at-another-byte (reading .before .before .loop .inv) (reading .hexadecimal .ensures) (search needs) (omega arith) (search needs)
+    let looping : Looping = search in
+    let reading : Reading = search in
+    reads-none (at-another-byte (looping .loop .inv) (reading .hexadecimal .ensures) (search needs) (omega arith) (search needs)
     (c .before .if4 .taken))
     (c .no-list3 .ensures)
 
 goes-on : tie.Need-loop-again Inv-loop μ-loop
 goes-on c =
-    let reading = c .before .before .before .before .before .before in
-    at-a-comma (reading .before .before .loop .inv) (reading .hexadecimal .ensures) (search needs) (omega arith) (search needs) (c .if4 .left)
+    let looping : Looping = search in
+    let reading : Reading = search in
+    at-a-comma (looping .loop .inv) (reading .hexadecimal .ensures) (search needs) (omega arith) (search needs) (c .if4 .left)
 
 pub read-list-spec : {M : Type 1} → statement M
 read-list-spec =
@@ -75,4 +87,4 @@ read-list-spec =
     goes-on
     (λ c κs. search needs)
     (λ c. search needs)
-    (λ c. reads-none (no-room (c .before .before .loop .inv) (search needs)) (c .no-list4 .ensures)))
+    (λ c. let looping : Looping = search in reads-none (no-room (looping .loop .inv) (search needs)) (c .no-list4 .ensures)))

@@ -13,9 +13,10 @@ dash c = rw (← c .before .is-dash .ensures, c .if1 .taken) (reads-found {n = 0
 list : tie.Need-returns-2
 unfolding runAt
 list c =
-    let listed = c .before .before in
-    let tested = listed .before .before in
-    rw (← tested .before .is-dash .ensures, tested .if1 .left) (listed .read-list .ensures)
+    let dashed : tie.After-is-dash = search in
+    let tested : tie.Else1 = search in
+    let listed : tie.After-read-list = search in
+    rw (← dashed .is-dash .ensures, tested .if1 .left) (listed .read-list .ensures)
 
 pub read-run-spec : {M : Type 1} → statement M
 read-run-spec = tie.close (tie.spec (λ c κs. search needs) dash (λ c κs. search needs) (λ c. search needs) list)

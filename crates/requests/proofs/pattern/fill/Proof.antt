@@ -23,6 +23,6 @@ fill-spec =
     (λ c. search needs)
     (λ c. search needs)
     (λ c. search needs)
-    (λ c. one-more-filled (c .before .before .loop .inv) (search needs) (c .pattern .ensures))
+    (λ c. let looping : tie.At-loop Inv-loop μ-loop = search in one-more-filled (looping .loop .inv) (search needs) (c .pattern .ensures))
     (λ c. search needs)
     (λ c. all-filled (c .before .loop .inv) (search needs)))

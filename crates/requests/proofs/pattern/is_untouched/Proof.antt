@@ -12,6 +12,9 @@ Inv-loop bytes from to i₀ i = Kept bytes from to i
 abbrev μ-loop : tie.MeasureT-loop
 μ-loop bytes from to i₀ i = to - i
 
+abbrev Looping : Type 0
+Looping = tie.At-loop Inv-loop μ-loop
+
 pub is-untouched-spec : {M : Type 1} → statement M
 is-untouched-spec =
     tie.close
@@ -19,13 +22,15 @@ is-untouched-spec =
     Inv-loop
     μ-loop
     (λ c. none-seen _ _ _)
-    (λ c. at-the-end (c .before .before .loop .inv) (search needs))
+    (λ c. let looping : Looping = search in at-the-end (looping .loop .inv) (search needs))
     (λ c. search needs)
     (λ c κs. search needs)
-    (λ c. let turn = c .before .before .before .before .before in
-    at-a-change (turn .loop .inv) (search needs) (search needs) (λ e. c .if2 .taken (e ∙ sym (c .before .pattern .ensures))))
+    (λ c.
+    let looping : Looping = search in
+    at-a-change (looping .loop .inv) (search needs) (search needs) (λ e. c .if2 .taken (e ∙ sym (c .before .pattern .ensures))))
     (λ c. search needs)
     (λ c. search needs)
-    (λ c. let turn = c .before .before .before .before .before in
-    at-a-kept-byte (turn .loop .inv) (search needs) (search needs) (c .if2 .left ∙ c .before .pattern .ensures))
+    (λ c.
+    let looping : Looping = search in
+    at-a-kept-byte (looping .loop .inv) (search needs) (search needs) (c .if2 .left ∙ c .before .pattern .ensures))
     (λ c. at-the-last (c .before .loop .inv) (search needs)))

@@ -11,7 +11,12 @@ is-placing-spec =
     tie.close
     (tie.spec
     (λ c κs. search needs)
-    (λ c. let last = c .before .before .before in
-    rw (← last .before .is-last .ensures, last .if1 .taken, le-leb _ _ (c .before .if2 .taken)))
-    (λ c. let last = c .before .before in rw (← last .before .is-last .ensures, last .if1 .taken, lt-leb _ _ (c .if2 .left)))
+    (λ c.
+    let last : tie.After-is-last = search in
+    let tested : tie.Then1 = search in
+    rw (← last .is-last .ensures, tested .if1 .taken, le-leb _ _ (c .before .if2 .taken)))
+    (λ c.
+    let last : tie.After-is-last = search in
+    let tested : tie.Then1 = search in
+    rw (← last .is-last .ensures, tested .if1 .taken, lt-leb _ _ (c .if2 .left)))
     (λ c. rw (← c .before .is-last .ensures, c .if1 .left)))

@@ -11,5 +11,8 @@ read-placing-spec =
     (λ c κs. search needs)
     (λ c κs. search needs)
     (λ c κs. search needs)
-    (λ c. let store = c .before .before in
-    rw (c .is-placing .ensures, c .before .next-decimal2 .ensures, store .next-decimal .ensures, store .before .decimal .ensures)))
+    (λ c.
+    let used : tie.After-decimal = search in
+    let store : tie.After-next-decimal = search in
+    let code : tie.After-next-decimal2 = search in
+    rw (c .is-placing .ensures, code .next-decimal2 .ensures, store .next-decimal .ensures, used .decimal .ensures)))

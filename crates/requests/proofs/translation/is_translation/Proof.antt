@@ -9,6 +9,6 @@ unfolding isTranslationOf
 is-translation-spec =
     tie.close
     (tie.spec
-    (λ c. let listed = c .before .before .before in rw (listed .if1 .taken, lt-ltb _ _ (c .before .if2 .taken)))
-    (λ c. let listed = c .before .before in rw (listed .if1 .taken, le-ltb _ _ (c .if2 .left)))
+    (λ c. let listed : tie.Then1 = search in rw (listed .if1 .taken, lt-ltb _ _ (c .before .if2 .taken)))
+    (λ c. let listed : tie.Then1 = search in rw (listed .if1 .taken, le-ltb _ _ (c .if2 .left)))
     (λ c. rw (c .if1 .left)))

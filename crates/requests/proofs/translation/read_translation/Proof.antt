@@ -6,22 +6,24 @@ use Rattle.requests.proofs.translation.read_translation.Tie as tie
 
 asks : tie.Need-returns
 asks c =
-    let listed = c .before .before .before .before in
-    let output = listed .before .before .before in
+    let output : tie.After-next-decimal2 = search in
+    let index : tie.After-behind = search in
+    let listed : tie.After-read-run = search in
     let helper-mem = output .before in
     let helper16 = helper-mem .before in
     let limit = helper16 .before in
+    let start = limit .before in
     record {
       numbers =
           rw (
             c .before .is-translation .ensures,
             listed .read-run .ensures .run,
-            listed .before .before .behind .ensures,
+            index .behind .ensures,
             output .next-decimal2 .ensures,
             helper-mem .next-hexadecimal2 .ensures,
             helper16 .next-hexadecimal .ensures,
             limit .next-decimal .ensures,
-            limit .before .hexadecimal .ensures,
+            start .hexadecimal .ensures,
           );
       halfwords = listed .read-run .ensures .halfwords ∙ cc;
       fits = listed .read-run .ensures .fits;
