@@ -11,11 +11,14 @@ ghost use mathlib.Core.List.{[], _∷_};
 ghost use Prim.Native.Nat.{_+_, _<_, _≤_};
 ghost use lib.ListN.{length};
 ghost use Rattle.agreement.specs.X86.Memory.{bytesOf};
-ghost use Rattle.agreement.specs.X86.Form.{RSP, r32, r64, add, or, and, sub, xor, cmp, shl, shr, sar, push, pop, mov, movImm64, load, store, alu, aluImm32, aluImm8, shiftCl, shiftImm8, imul, movsxd, setccAl, movzx, cmov, callRax, ret};
+ghost use Rattle.agreement.specs.X86.Form.{RSP, r32, r64, add, or, and, sub, xor, cmp, shl, shr, sar, push, pop, mov, movImm64, load};
+ghost use Rattle.agreement.specs.X86.Form.{store, alu, aluImm32, aluImm8, shiftCl, shiftImm8, imul, movsxd, setccAl, movzx, cmov, callRax};
+ghost use Rattle.agreement.specs.X86.Form.{ret};
 ghost use Rattle.agreement.specs.X86.Encode.{encode, modReg, modMem, ccNumber};
 ghost use Rattle.emitter.specs.Written.{Wrote, Room};
 ghost use Rattle.emitter.specs.Forms.{ccOf, opcodeOf, digitOf};
-ghost use Rattle.emitter.specs.Shapes.{modrm, rexBytes, memSib, memPlain, opcodeReg, regRm, regRm0F, al0F, regMem, digitRm, digitRmImm8, digitRmImm32};
+ghost use Rattle.emitter.specs.Shapes.{modrm, rexBytes, memSib, memPlain, opcodeReg, regRm, regRm0F, al0F, regMem, digitRm};
+ghost use Rattle.emitter.specs.Shapes.{digitRmImm8, digitRmImm32};
 
 pub enum X64Cc {
     B,
