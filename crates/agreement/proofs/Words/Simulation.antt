@@ -82,8 +82,8 @@ module _ (undefined : State → Flags) (b : ℕ) (fits : b + 256 ≤ 2 ^ 64) whe
   unfolding run Next
   calling k i pc x s h = record { fit = fit-nil; slots = h; same = refl; next = (refl, refl) }
 
-  refusing : (pc w : ℕ) (x : Registers) (s : State) → Slots b x s → Agree (notTakenAt pc w) (halt x pc) s
-  refusing pc w x s h = rw (opcode-is w, rs1-is w, rs2-is w) (by (left-over (opcode w) (rs1 w) (rs2 w) (omega arith) (omega arith) x s h))
+  not-taken : (pc w : ℕ) (x : Registers) (s : State) → Slots b x s → Agree (notTakenAt pc w) (halt x pc) s
+  not-taken pc w x s h = rw (opcode-is w, rs1-is w, rs2-is w) (by (left-over (opcode w) (rs1 w) (rs2 w) (omega arith) (omega arith) x s h))
     where
       by : Idle x s (leftover (opcode w) (rs1 w) (rs2 w))
           → Agree (record { code = leftover (opcode w) (rs1 w) (rs2 w); added = 0; end = goesOn pc }) (halt x pc) s
@@ -143,8 +143,8 @@ module _ (undefined : State → Flags) (b : ℕ) (fits : b + 256 ≤ 2 ^ 64) whe
       (jalr-jumps undefined b fits x s (rd w) (rs1 w) (Decode32.imm32 w) (Manual.immI w) (plus pc 4) h
       (omega arith) (omega arith) (imm32-is w lw) (plus-lt pc 4)))
   agree-word (access a) pc w p x k s lw h f = calling forAccess w pc x s h
-  agree-word (unmodelled o) pc w p x k s lw h f = refusing pc w x s h
-  agree-word other pc w p x k s lw h f = refusing pc w x s h
+  agree-word (unmodelled o) pc w p x k s lw h f = not-taken pc w x s h
+  agree-word other pc w p x k s lw h f = not-taken pc w x s h
 
   pub agree : (n pc : ℕ) (hs : List ℕ) (x : Registers) (s : State) → Halfwords hs → Slots b x s → Agree (walk n pc hs) (reading n pc hs x) s
   unfolding walk reading Halfwords
