@@ -26,7 +26,8 @@ isHalfword line at = eqb (numberAt 16 line at .next) (at + 4)
 abbrev pub halfwordAt : List ℕ → ℕ → ℕ
 halfwordAt line at = numberAt 16 line at .value % 65536
 
--- from an index on a halfword and the line's end, or a comma and a list; `seen` are the halfwords before it, `room` is how many more may come
+-- from an index on a halfword and the line's end, or a comma and a list; `seen` are the halfwords before it, `room` is how many
+-- more may come
 unfoldable pub listAt : (room : ℕ) (line : List ℕ) (at : ℕ) (seen : List ℕ) → Listed
 listAt zero line at seen = noList
 listAt (suc room) line at seen =

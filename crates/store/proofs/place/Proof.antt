@@ -15,7 +15,9 @@ no-room-for-code : tie.Need-returns-3
 no-room-for-code c = is-full _ _ _ (omega arith) (omega arith)
 
 placed : tie.Need-returns-4
-placed c = let copied : tie.After-copy-at = search in is-placed _ _ _ _ _ _ (omega arith) (omega arith) (omega arith) (omega arith) (copied .copy-at .ensures)
+placed c =
+    let copied : tie.After-copy-at = search in
+    is-placed _ _ _ _ _ _ (omega arith) (omega arith) (omega arith) (omega arith) (copied .copy-at .ensures)
 
 pub place-spec : {M : Type 1} → statement M
 place-spec =
