@@ -9,7 +9,8 @@ repository's root, further ones by names in the same folder. Counted are lines t
 """
 import os
 import re
-import sys
+
+import pages
 
 ROOT = os.path.dirname(os.path.dirname(os.path.abspath(__file__)))
 PAGE = os.path.join(ROOT, "docs", "AUDIT.md")
@@ -49,19 +50,5 @@ def counted(text):
     return "\n".join(lines)
 
 
-def main():
-    with open(PAGE, encoding="utf-8") as file:
-        text = file.read()
-    made = counted(text)
-    if sys.argv[1:] == ["--check"]:
-        if text != made:
-            sys.exit("the line counts of docs/AUDIT.md are not as checks/lines.py counts them")
-    elif sys.argv[1:]:
-        sys.exit(__doc__)
-    else:
-        with open(PAGE, "w", encoding="utf-8") as file:
-            file.write(made)
-
-
 if __name__ == "__main__":
-    main()
+    pages.run(PAGE, counted, __doc__)

@@ -8,6 +8,8 @@ import os
 import re
 import sys
 
+import pages
+
 ROOT = os.path.dirname(os.path.dirname(os.path.abspath(__file__)))
 PAGE = os.path.join(ROOT, "docs", "MODULES.md")
 PARTS = (
@@ -87,18 +89,5 @@ def page():
     return "\n".join(lines) + "\n"
 
 
-def main():
-    made = page()
-    if sys.argv[1:] == ["--check"]:
-        with open(PAGE, encoding="utf-8") as file:
-            if file.read() != made:
-                sys.exit("docs/MODULES.md is not as checks/modules.py makes it")
-    elif sys.argv[1:]:
-        sys.exit(__doc__)
-    else:
-        with open(PAGE, "w", encoding="utf-8") as file:
-            file.write(made)
-
-
 if __name__ == "__main__":
-    main()
+    pages.run(PAGE, lambda _: page(), __doc__)
