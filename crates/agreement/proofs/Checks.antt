@@ -10,7 +10,8 @@ pub mod Instructions
 pub mod Faults
 pub mod Example
 pub mod ExampleRuns
-pub mod PremisesMet
 pub mod ExampleStates
+pub mod PremisesMet
 pub mod WitnessEntries
 pub mod Witness
+pub mod CodeChanges

@@ -7,6 +7,7 @@ pub mod Matches
 pub mod Immediates
 pub mod Naming
 pub mod Needed
+pub mod Runs
 pub mod Leftover
 pub mod Length
 pub mod Output

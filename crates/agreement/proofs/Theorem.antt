@@ -3,5 +3,6 @@ pub mod RefusedAlike
 pub mod ManualRun
 pub mod OneTurn
 pub mod Determined
-pub mod Agreement
 pub mod Consequences
+pub mod TurnByTurn
+pub mod Agreement

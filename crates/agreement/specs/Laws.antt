@@ -4,11 +4,12 @@ use mathlib.Core.Bool.{cond}
 use mathlib.Core.List.{List, _++_}
 use mathlib.Core.Logic.{_≢_}
 use mathlib.Core.Option.{some}
-use Prim.Native.Nat.{ℕ, zero, suc, min, _+_, _%_, _^_, _≤_, _<_}
+use Prim.Native.Nat.{ℕ, zero, suc, min, _+_, _*_, _%_, _^_, _≤_, _<_}
 use lib.ListN.{length, take, drop}
 use lib.Dec.{ltb, eqb}
 use lib.Signed.{ltZ}
 use Rattle.agreement.specs.Common.{greatest, mostSteps, Helper.forAccess}
+use Rattle.agreement.specs.Riscv.Code.{Code, runAt}
 use Rattle.agreement.specs.Riscv.Fields.{opcode, funct3}
 use Rattle.agreement.specs.Riscv.Immediates as Manual
 use Rattle.agreement.specs.Riscv.Instruction.{Instruction, Instruction.JALR, Instruction.other, signed, shiftRightArithmetic, named}
@@ -22,7 +23,7 @@ use Rattle.agreement.specs.X86.Flags.{sext, subFlags, holds, shifted}
 use Rattle.agreement.specs.Translation.Decode32 as Decode32
 use Rattle.agreement.specs.Translation.Kind.{kind, kindNumber}
 use Rattle.agreement.specs.Translation.Needed.{needed}
-use Rattle.agreement.specs.Translation.Walk.{Walked, emit, before, jumps, helps, notTakenAt}
+use Rattle.agreement.specs.Translation.Walk.{Walked, emit, before, jumps, helps, stopsBehind, notTakenAt}
 use Rattle.agreement.specs.Translation.Replies.{Block, Reply.block, outputAfter, translate}
 
 -- What the encoder writes decodes to that instruction, whatever follows; what decodes is byte for byte so written.
@@ -54,9 +55,10 @@ pub record GoesOn (k : Instruction) (pc w : ℕ) : Type 0 where
   pub code : List Instr
   pub on : (p : Walked) → emit k pc w p ≡ before code p
 
-pub record Ends (k : Instruction) (pc w : ℕ) : Type 0 where
-  pub code : List Instr
-  pub ends : (p : Walked) → emit k pc w p ≡ jumps code
+-- an ending word has set RAX, or leaves it to the end of the block, which goes on at the word behind
+pub data Ends (k : Instruction) (pc w : ℕ) : Type 0 where
+  sets : (code : List Instr) → ((p : Walked) → emit k pc w p ≡ jumps code) → Ends k pc w
+  leaves : (code : List Instr) → ((p : Walked) → emit k pc w p ≡ stopsBehind code (Decode32.wrappingAdd pc 4)) → Ends k pc w
 
 unfoldable pub WalksBy : ℕ → Instruction → ℕ → ℕ → Type 0
 WalksBy zero k pc w = (p : Walked) → emit k pc w p ≡ notTakenAt pc w
@@ -73,6 +75,22 @@ unfoldable pub NeedsNoMore : Type 0
 NeedsNoMore = (start limit : ℕ) (hs : List ℕ) (helper16 helperMem room : ℕ)
     → translate start limit (needed (min limit mostSteps) hs) helper16 helperMem room
     ≡ translate start limit hs helper16 helperMem room
+
+-- What a code has at an address, its run has; so code that has changed elsewhere has the same run.
+
+unfoldable pub RunsAlike : Type 0
+RunsAlike = (c d : Code) (pc n : ℕ) → pc < 2 ^ 64
+    → ((k : ℕ) → k < n → c ((pc + 2 * k) % 2 ^ 64) ≡ d ((pc + 2 * k) % 2 ^ 64))
+    → runAt c pc n ≡ runAt d pc n
+
+-- Every run that fits into the address space is the run of some code: the premise on code leaves no run out.
+
+pub record Held (pc : ℕ) (hs : List ℕ) : Type 0 where
+  pub code : Code
+  pub run : runAt code pc (length hs) ≡ hs
+
+unfoldable pub RunsHeld : Type 0
+RunsHeld = (pc : ℕ) (hs : List ℕ) → pc < 2 ^ 64 → length hs ≤ 2 ^ 63 → Held pc hs
 
 -- The immediates: decode.rs and the manual give one number for every 32-bit word.
 

@@ -1,4 +1,5 @@
 pub mod Fields
 pub mod Immediates
 pub mod Instruction
+pub mod Code
 pub mod Run

@@ -112,6 +112,9 @@ cases =
     -- 0x0000000F (FENCE) at 0xFFFFFFFFFFFFFFFC, limit 1: 67 bytes, RAX gets 0: the eight bytes behind 48B8
     ∷ translation 0xFFFFFFFFFFFFFFFC 1 (words (0x0000000F ∷ [])) 0 (67 ∷ 1 ∷ [])
     (framed (dump 20 0x48B80000000000000000_48BA0100000000000000))
+    -- 0x0000100F (FENCE.I) then 0x00500093: 67 bytes, count 1, RAX gets 0x80000004 (document 02, Q-1)
+    ∷ translation 0x80000000 64 (words (0x0000100F ∷ 0x00500093 ∷ [])) 0 (67 ∷ 1 ∷ [])
+    (framed (dump 20 0x48B80400008000000000_48BA0100000000000000))
     -- 0x00500093 (ADDI x1, x0, 5): 88 bytes, count 1
     ∷ translation 0x80000000 64 (words (0x00500093 ∷ [])) 0 (88 ∷ 1 ∷ [])
     (framed (dump 41 0x4C8B9300000000_4981C205000000_4C899308000000_48B80400008000000000_48BA0100000000000000))

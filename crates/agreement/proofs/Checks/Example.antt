@@ -3,14 +3,17 @@
 -- be. The block may only be fetched from, the registers and the stack only read and written, and nothing else may be touched.
 use mathlib.Core.Bool.{Bool, false, _&&_, _||_}
 use mathlib.Core.List.{List, [], _∷_}
+use mathlib.Core.Option.{none}
 use Prim.Native.Nat.{ℕ, _+_, _-_, _*_, _%_}
-use lib.ListN.{replicate}
+use lib.ListN.{length, replicate}
 use lib.Dec.{leb, ltb}
+use Rattle.agreement.specs.Riscv.Code.{Code}
 use Rattle.agreement.specs.X86.Memory.{at, read, write}
 use Rattle.agreement.specs.X86.Form.{RAX, RDX, RSP}
 use Rattle.agreement.specs.X86.State.{Flags, State, Permissions, set}
 use Rattle.agreement.specs.Statement.Machine.{RegisterBytes, Turn}
 use Rattle.agreement.proofs.Checks.Cases.{words}
+use Rattle.agreement.proofs.Laws.Runs.{held}
 
 -- the n addresses from a
 unfoldable pub range : ℕ → ℕ → ℕ → Bool
@@ -37,10 +40,12 @@ abbrev pub clear : Flags
 clear = record { cf = false; pf = false; af = false; zf = false; sf = false; of = false }
 
 -- no two registers and no two neighbouring bytes of memory hold the same
-abbrev pub turnOf : ℕ → List ℕ → (State → State) → Turn
-turnOf sp hs helper = record {
+abbrev pub turnOf : ℕ → Code → List ℕ → (State → State) → Turn
+turnOf sp code hs helper = record {
   limit = 64;
-  halfwords = hs;
+  made = hs;
+  code = code;
+  reach = length hs;
   helper16 = 0x1111;
   helperMem = 0x2222;
   output = replicate 2243 0;
@@ -59,7 +64,9 @@ turnOf sp hs helper = record {
 abbrev pub refusedTurn : Turn
 refusedTurn = record {
   limit = 0;
-  halfwords = [];
+  made = [];
+  code = λ x. none;
+  reach = 0;
   helper16 = 0;
   helperMem = 0;
   output = [];
@@ -74,18 +81,6 @@ refusedTurn = record {
   helper = λ s. s;
 }
 
--- ADDI x1, x0, 5; LD x1, 0(x1): the helper leaves x1 = 7, the pc 0x80000010 and RDX 3
-abbrev pub helperTurn : Turn
-helperTurn = turnOf 0x30008 (words (0x00500093 ∷ 0x0000B083 ∷ [])) (leaves 1 7 0x80000010 3)
-
--- ADDI x2, x1, 1; BNE x1, x2, 16: no helper is called
-abbrev pub plainTurn : Turn
-plainTurn = turnOf 0x30018 (words (0x00108113 ∷ 0x00209863 ∷ [])) (leaves 1 0 0 0)
-
--- a compressed halfword, the return address in the last eight bytes of memory: the helper leaves x10 = 9 and an odd pc
-abbrev pub halfwordTurn : Turn
-halfwordTurn = turnOf 0xFFFFFFFFFFFFFFF8 (0x4501 ∷ []) (leaves 10 9 0x80000031 1)
-
 -- the first pc, and register bytes that are all zero
 abbrev pub firstPc : ℕ
 firstPc = 0xFFFFFFFFFFFFFFF8
@@ -93,9 +88,33 @@ firstPc = 0xFFFFFFFFFFFFFFF8
 abbrev pub zeros : RegisterBytes
 zeros i = 0
 
+-- ADDI x1, x0, 5; LD x1, 0(x1), at the first pc: the helper leaves x1 = 7, the pc 0x80000010 and RDX 3
+abbrev pub helperRun : List ℕ
+helperRun = words (0x00500093 ∷ 0x0000B083 ∷ [])
+
+abbrev pub helperTurn : Turn
+helperTurn = turnOf 0x30008 (held firstPc helperRun) helperRun (leaves 1 7 0x80000010 3)
+
+-- ADDI x2, x1, 1; BNE x1, x2, 16, at the pc given: no helper is called
+abbrev pub plainRun : List ℕ
+plainRun = words (0x00108113 ∷ 0x00209863 ∷ [])
+
+abbrev pub plainAt : ℕ → Turn
+plainAt pc = turnOf 0x30018 (held pc plainRun) plainRun (leaves 1 0 0 0)
+
+abbrev pub plainTurn : Turn
+plainTurn = plainAt 0x80000010
+
+-- a compressed halfword, the return address in the last eight bytes of memory: the helper leaves x10 = 9 and an odd pc
+abbrev pub halfwordTurn : Turn
+halfwordTurn = turnOf 0xFFFFFFFFFFFFFFF8 (held 0x80000024 (0x4501 ∷ [])) (0x4501 ∷ []) (leaves 10 9 0x80000031 1)
+
+-- there the code is plainTurn's once more, and the turn is refused
+abbrev pub oddTurn : Turn
+oddTurn = plainAt 0x80000031
+
 abbrev pub threeTurns : List Turn
 threeTurns = refusedTurn ∷ helperTurn ∷ plainTurn ∷ []
 
--- the last turn finds an odd pc, and is refused
 abbrev pub fiveTurns : List Turn
-fiveTurns = refusedTurn ∷ helperTurn ∷ plainTurn ∷ halfwordTurn ∷ plainTurn ∷ []
+fiveTurns = refusedTurn ∷ helperTurn ∷ plainTurn ∷ halfwordTurn ∷ oddTurn ∷ []

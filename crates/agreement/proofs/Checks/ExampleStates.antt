@@ -6,14 +6,15 @@ use native.Mathlib.Omega.{arith}
 use lib.Dec.{eqb}
 use Rattle.agreement.specs.Common.{Helper.forAccess, Helper.forHalfword}
 use Rattle.agreement.specs.Riscv.Instruction.{branches, find, findIn, threeIs, topIs, valueOpImm}
-use Rattle.agreement.specs.Riscv.Run.{GuestState, Registers, does, firstRefused, isLong, isNotTaken, reading, refused, taken, writeX}
+use Rattle.agreement.specs.Riscv.Code.{runAt}
+use Rattle.agreement.specs.Riscv.Run.{GuestState, Registers, does, firstRefused, help, isLong, isNotTaken, reading, refused, taken, writeX}
 use Rattle.agreement.specs.Riscv.Run.Stop.{called, plain}
 use Rattle.agreement.specs.Riscv.Immediates as Manual
 use Rattle.agreement.specs.Statement.Agreement.{feedOf, isRefused, start}
 use Rattle.agreement.specs.X86.Memory.{read, write}
 use Rattle.agreement.specs.X86.State.{State}
 use Rattle.agreement.proofs.Checks.Cases.{words}
-use Rattle.agreement.proofs.Checks.Example.{firstPc, halfwordTurn, helperTurn, leaves, plainTurn, refusedTurn, zeros}
+use Rattle.agreement.proofs.Checks.Example.{firstPc, halfwordTurn, helperTurn, leaves, oddTurn, plainTurn, refusedTurn, zeros}
 use Rattle.agreement.proofs.Host.Memory.{read-other, read-write}
 use Rattle.agreement.proofs.Theorem.Consequences.{afterHelper, afterPlain, readAs}
 
@@ -22,7 +23,7 @@ m0 = start firstPc zeros
 
 -- which kind of turn each is, by computing
 unfoldable pub reads-a-turn : Unit {0}
-unfolding refused firstRefused isNotTaken isLong taken findIn find threeIs topIs reading does words feedOf leaves
+unfolding runAt refused firstRefused isNotTaken isLong taken findIn find threeIs topIs reading does words feedOf leaves
 reads-a-turn = tt
 
 pub first-refused : isRefused refusedTurn m0 ≡ true
@@ -94,11 +95,14 @@ pub fourth-taken : (m : GuestState) → m .pc ≡ 0x80000024 → isRefused halfw
 unfolding reads-a-turn
 fourth-taken m e = rw e
 
-pub fourth-calls : (m : GuestState) → readAs halfwordTurn m .stop ≡ called forHalfword 0x4501
+pub fourth-reads : (m : GuestState) → m .pc ≡ 0x80000024 → readAs halfwordTurn m ≡ help (m .registers) 0x80000024 forHalfword 0x4501
 unfolding reads-a-turn
-fourth-calls m = refl
+fourth-reads m e = rw e
 
-pub fifth-refused : (a : State) → isRefused plainTurn (afterHelper halfwordTurn a) ≡ true
+pub fourth-calls : (m : GuestState) → m .pc ≡ 0x80000024 → readAs halfwordTurn m .stop ≡ called forHalfword 0x4501
+fourth-calls m e = rw (fourth-reads m e)
+
+pub fifth-refused : (a : State) → isRefused oddTurn (afterHelper halfwordTurn a) ≡ true
 unfolding reads-a-turn
 fifth-refused a = refl
 

@@ -6,20 +6,26 @@ use mathlib.Core.Path.{_∙_, _≡_, ap, refl}
 use Prim.Native.Nat.{_%_, _*_, _+_, _-_, _<_, _^_, _≤_, ℕ}
 use native.Mathlib.Omega.{arith}
 use lib.ListN.{length}
+use Rattle.agreement.specs.Common.{Helper.forAccess, Helper.forHalfword}
 use Rattle.agreement.specs.Laws.{Lengths}
+use Rattle.agreement.specs.Riscv.Code.{Code, runAt}
 use Rattle.agreement.specs.Translation.Replies.{Block, Reply.block, translate}
-use Rattle.agreement.specs.Statement.Agreement.{Agreement, Agrees}
-use Rattle.agreement.specs.Statement.Machine.{RegisterBytes, Turn, reply}
-use Rattle.agreement.specs.Statement.Premises.{Enterable, Halfwords, Keeps, Layout, Premises, Typed}
+use Rattle.agreement.specs.Statement.Agreement.{Agreement, Agrees, start}
+use Rattle.agreement.specs.Statement.Machine.{Turn, reply}
+use Rattle.agreement.specs.Statement.Premises.{Halfwords, Keeps, Layout}
 use Rattle.agreement.specs.X86.Memory.{Memory, read, write}
 use Rattle.agreement.specs.X86.State.{State}
 use Rattle.agreement.proofs.Checks.Cases.{words}
-use Rattle.agreement.proofs.Checks.Example.{firstPc, fiveTurns, halfwordTurn, helperTurn, leaves, plainTurn, range, refusedTurn}
-use Rattle.agreement.proofs.Checks.Example.{threeTurns, turnOf, zeros}
+use Rattle.agreement.proofs.Checks.Example.{firstPc, fiveTurns, halfwordTurn, helperRun, helperTurn, leaves, oddTurn, plainRun}
+use Rattle.agreement.proofs.Checks.Example.{plainTurn, range, refusedTurn, threeTurns, turnOf, zeros}
+use Rattle.agreement.proofs.Checks.ExampleStates.{after-three, fifth-refused, first-refused, fourth-calls, fourth-taken, m0, m2, m3}
+use Rattle.agreement.proofs.Checks.ExampleStates.{second-calls, second-taken, third-plain, third-taken}
 use Rattle.agreement.proofs.Host.Memory.{read-write, write-out}
 use Rattle.agreement.proofs.Laws.Length.{lengths}
 use Rattle.agreement.proofs.Theorem.Agreement.{agreement}
+use Rattle.agreement.proofs.Theorem.Consequences.{afterHelper}
 use Rattle.agreement.proofs.Theorem.OneTurn.{between, or-left, or-right}
+use Rattle.agreement.proofs.Theorem.TurnByTurn.{MeetsAt, Met, met, met-helped, met-plain, met-refused}
 
 -- 1. The layout and the helpers keep document 01's premises
 
@@ -39,8 +45,8 @@ pub record Allowed (sp : ℕ) : Type 0 where
   pub fits : sp + 8 ≤ 2 ^ 64
   pub aligned : sp % 16 ≡ 8
 
-laid-out : (sp : ℕ) (hs : List ℕ) (h : State → State) (k : ℕ) → Allowed sp → k ≤ 2243 → Layout (turnOf sp hs h) k
-laid-out sp hs h k s l = record {
+laid-out : (sp : ℕ) (g : Code) (hs : List ℕ) (h : State → State) (k : ℕ) → Allowed sp → k ≤ 2243 → Layout (turnOf sp g hs h) k
+laid-out sp g hs h k s l = record {
   base-fits = omega arith;
   stack-low = omega (arith, s .above);
   stack-fits = omega (arith, s .fits);
@@ -63,10 +69,10 @@ outside m r v x l h =
     write-out 8 (write 8 m (0x10000 + 8 * r) v) 0x10000 0 x (omega arith) (λ i k. omega (arith, h i (omega arith)))
     ∙ write-out 8 m (0x10000 + 8 * r) v x (omega arith) (λ i k. omega (arith, h (8 * r + i) (omega arith)))
 
-leaves-keeps : (sp : ℕ) (hs : List ℕ) (h : State → State) (r v rax rdx k : ℕ) (u : State)
-    → Allowed sp → r < 32 → rax < 2 ^ 64 → rdx < 2 ^ 64 → k ≤ 2243 → Keeps (turnOf sp hs h) k u (leaves r v rax rdx u)
+leaves-keeps : (sp : ℕ) (g : Code) (hs : List ℕ) (h : State → State) (r v rax rdx k : ℕ) (u : State)
+    → Allowed sp → r < 32 → rax < 2 ^ 64 → rdx < 2 ^ 64 → k ≤ 2243 → Keeps (turnOf sp g hs h) k u (leaves r v rax rdx u)
 unfolding leaves
-leaves-keeps sp hs h r v rax rdx k u s l la ld lk = record {
+leaves-keeps sp g hs h r v rax rdx k u s l la ld lk = record {
   rip = refl;
   rsp = refl;
   rbx = refl;
@@ -82,75 +88,97 @@ leaves-keeps sp hs h r v rax rdx k u s l la ld lk = record {
   rdx = ld;
 }
 
--- 2. The lists meet the premises
-
--- what is asked of a turn, at any pc and register bytes
-Meets : Turn → Type 0
-Meets t = Typed t × ((pc : ℕ) (rb : RegisterBytes) (b : Block) → reply t pc ≡ block b → Enterable t b rb)
-
-unfoldable AllMeet : List Turn → Type 0
-AllMeet [] = Unit
-AllMeet (t ∷ ts) = Meets t × AllMeet ts
-
-premises : (ts : List Turn) → AllMeet ts → (pc : ℕ) (rb : RegisterBytes) → Premises pc rb ts
-unfolding Premises AllMeet Meets
-premises [] h pc rb = tt
-premises (t ∷ ts) h pc rb = (h .0 .0, (λ b e. h .0 .1 pc rb b e), (λ e pc′ rb′ k. premises ts (h .1) pc′ rb′))
+-- 2. The turns meet the premises, each at its pc
 
 pub no-longer : (t : Turn) (pc : ℕ) (b : Block) → reply t pc ≡ block b → length (b .code) ≤ 2243
 no-longer t pc b e = by lengths
   where
     by : Lengths → length (b .code) ≤ 2243
-    by h = unfold Lengths in h pc (t .limit) (t .halfwords) (t .helper16) (t .helperMem) (length (t .output)) b e .1
+    by h = unfold Lengths in h pc (t .limit) (t .made) (t .helper16) (t .helperMem) (length (t .output)) b e .1
 
-turnOf-meets : (sp : ℕ) (hs : List ℕ) (r v rax rdx : ℕ) → Allowed sp → Halfwords hs → r < 32 → rax < 2 ^ 64 → rdx < 2 ^ 64
-    → Meets (turnOf sp hs (leaves r v rax rdx))
-unfolding Meets
-turnOf-meets sp hs r v rax rdx s l lr la ld = (
-  record { halfwords = l; helper16 = omega arith; helperMem = omega arith; others = λ k h. omega arith },
-  λ pc rb b e.
-      let n : length (b .code) ≤ 2243 = no-longer (turnOf sp hs (leaves r v rax rdx)) pc b e in
+pub turnOf-meets : (sp : ℕ) (g : Code) (hs : List ℕ) (r v rax rdx pc : ℕ) → Allowed sp → Halfwords hs → hs ≡ runAt g pc (length hs)
+    → r < 32 → rax < 2 ^ 64 → rdx < 2 ^ 64 → MeetsAt (turnOf sp g hs (leaves r v rax rdx)) pc
+turnOf-meets sp g hs r v rax rdx pc s l un lr la ld = record {
+  typed = record { made = l; helper16 = omega arith; helperMem = omega arith; others = λ k h. omega arith };
+  unchanged = un;
+  enterable = λ b rb e.
+      let n : length (b .code) ≤ 2243 = no-longer (turnOf sp g hs (leaves r v rax rdx)) pc b e in
       record {
-        layout = laid-out sp hs (leaves r v rax rdx) (length (b .code)) s n;
-        helper = λ u a k ws xs g c. leaves-keeps sp hs (leaves r v rax rdx) r v rax rdx (length (b .code)) a s lr la ld n;
-      },
-)
+        layout = laid-out sp g hs (leaves r v rax rdx) (length (b .code)) s n;
+        helper = λ u a k ws xs g′ c. leaves-keeps sp g hs (leaves r v rax rdx) r v rax rdx (length (b .code)) a s lr la ld n;
+      };
+}
 
-refused-meets : Meets refusedTurn
-unfolding Meets Halfwords translate
-refused-meets = (
-  record { halfwords = tt; helper16 = omega arith; helperMem = omega arith; others = λ k h. omega arith },
-  λ pc rb b e. absurd (let z : _≡_ {A = ℕ} 0 1 = cc in omega arith),
-)
+refused-meets : (pc : ℕ) → MeetsAt refusedTurn pc
+unfolding Halfwords translate runAt
+refused-meets pc = record {
+  typed = record { made = tt; helper16 = omega arith; helperMem = omega arith; others = λ k h. omega arith };
+  unchanged = refl;
+  enterable = λ b rb e. absurd (let z : _≡_ {A = ℕ} 0 1 = cc in omega arith);
+}
 
-helper-meets : Meets helperTurn
+helper-meets : MeetsAt helperTurn firstPc
 helper-meets =
-    turnOf-meets 0x30008 (words (0x00500093 ∷ 0x0000B083 ∷ [])) 1 7 0x80000010 3
+    turnOf-meets 0x30008 (helperTurn .code) helperRun 1 7 0x80000010 3 firstPc
     (record { above = omega arith; fits = omega arith; aligned = refl })
-    (unfold words Halfwords in omega arith) (omega arith) (omega arith) (omega arith)
+    (unfold words Halfwords in omega arith) (unfold words runAt in refl) (omega arith) (omega arith) (omega arith)
 
-plain-meets : Meets plainTurn
+plain-meets : MeetsAt plainTurn 0x80000010
 plain-meets =
-    turnOf-meets 0x30018 (words (0x00108113 ∷ 0x00209863 ∷ [])) 1 0 0 0
+    turnOf-meets 0x30018 (plainTurn .code) plainRun 1 0 0 0 0x80000010
     (record { above = omega arith; fits = omega arith; aligned = refl })
-    (unfold words Halfwords in omega arith) (omega arith) (omega arith) (omega arith)
+    (unfold words Halfwords in omega arith) (unfold words runAt in refl) (omega arith) (omega arith) (omega arith)
 
-halfword-meets : Meets halfwordTurn
+halfword-meets : MeetsAt halfwordTurn 0x80000024
 halfword-meets =
-    turnOf-meets 0xFFFFFFFFFFFFFFF8 (0x4501 ∷ []) 10 9 0x80000031 1
+    turnOf-meets 0xFFFFFFFFFFFFFFF8 (halfwordTurn .code) (0x4501 ∷ []) 10 9 0x80000031 1 0x80000024
     (record { above = omega arith; fits = omega arith; aligned = refl })
-    (unfold Halfwords in omega arith) (omega arith) (omega arith) (omega arith)
+    (unfold Halfwords in omega arith) (unfold runAt in refl) (omega arith) (omega arith) (omega arith)
 
--- 3. The theorem applied
+odd-meets : MeetsAt oddTurn 0x80000031
+odd-meets =
+    turnOf-meets 0x30018 (oddTurn .code) plainRun 1 0 0 0 0x80000031
+    (record { above = omega arith; fits = omega arith; aligned = refl })
+    (unfold words Halfwords in omega arith) (unfold words runAt in refl) (omega arith) (omega arith) (omega arith)
 
-applied : (ts : List Turn) → AllMeet ts → Agrees firstPc zeros ts
-applied ts h = by agreement
+-- 3. The lists meet them along the manual's run, and the theorem is applied
+
+after-helper-met : (u : State) (ts : List Turn) → (m3 u .pc ≡ 0x80000024 → Met (m3 u) ts) → Met (m2 u) (plainTurn ∷ ts)
+after-helper-met u ts k = met-plain (m2 u) plainTurn ts at-pc (third-taken u) (third-plain u) (k (after-three u .pc))
   where
-    by : Agreement → Agrees firstPc zeros ts
-    by a = unfold Agreement in a firstPc zeros ts (omega arith) (unfold read in refl) (premises ts h firstPc zeros)
+    at-pc : MeetsAt plainTurn (m2 u .pc)
+    at-pc = unfold leaves in plain-meets
+
+-- the first two turns of both lists
+met-from : (ts : List Turn) → ((u : State) → Met (m2 u) ts) → Met m0 (refusedTurn ∷ helperTurn ∷ ts)
+met-from ts k =
+    met-refused m0 refusedTurn (helperTurn ∷ ts) (refused-meets firstPc) first-refused
+    (met-helped m0 helperTurn ts forAccess 0x0000B083 helper-meets second-taken second-calls k)
+
+three-met : Met m0 threeTurns
+three-met = met-from (plainTurn ∷ []) (λ u. after-helper-met u [] (λ e. unfold Met in tt))
+
+last-met : (u : State) → Met (afterHelper halfwordTurn u) (oddTurn ∷ [])
+last-met u = met-refused (afterHelper halfwordTurn u) oddTurn [] at-pc (fifth-refused u) (unfold Met in tt)
+  where
+    at-pc : MeetsAt oddTurn (afterHelper halfwordTurn u .pc)
+    at-pc = unfold leaves in odd-meets
+
+five-met : Met m0 fiveTurns
+five-met = met-from (plainTurn ∷ halfwordTurn ∷ oddTurn ∷ []) (λ u. after-helper-met u (halfwordTurn ∷ oddTurn ∷ []) (λ e.
+    met-helped (m3 u) halfwordTurn (oddTurn ∷ []) forHalfword 0x4501 (rw e halfword-meets)
+    (fourth-taken (m3 u) e) (fourth-calls (m3 u) e) last-met))
+
+-- from register bytes that are all zero
+pub applied : (pc : ℕ) (ts : List Turn) → pc < 2 ^ 64 → Met (start pc zeros) ts → Agrees pc zeros ts
+applied pc ts low h = by agreement
+  where
+    by : Agreement → Agrees pc zeros ts
+    by a = unfold Agreement in
+        a pc zeros ts low (unfold read in refl) (met ts (start pc zeros) zeros low (λ r k. refl) (unfold read in refl) h)
 
 pub three : Agrees firstPc zeros threeTurns
-three = applied threeTurns (unfold AllMeet in (refused-meets, (helper-meets, (plain-meets, tt))))
+three = applied firstPc threeTurns (omega arith) three-met
 
 pub five : Agrees firstPc zeros fiveTurns
-five = applied fiveTurns (unfold AllMeet in (refused-meets, (helper-meets, (plain-meets, (halfword-meets, (plain-meets, tt))))))
+five = applied firstPc fiveTurns (omega arith) five-met

@@ -98,7 +98,7 @@ each-word =
     ∷ ending 0x013950E3 44 0x4C8B9390000000_4C8B9B98000000_4D39DA_49BB0400008000000000_48B80008008000000000_4C0F4DD8_4C89D8  -- BGE 2048
     ∷ ending 0x7EFBE063 44 0x4C8B93B8000000_4C8B9B78000000_4D39DA_49BB0400008000000000_48B8E007008000000000_4C0F42D8_4C89D8  -- BLTU 2016
     ∷ ending 0x00BE7F63 44 0x4C8B93E0000000_4C8B9B58000000_4D39DA_49BB0400008000000000_48B81E00008000000000_4C0F43D8_4C89D8  -- BGEU 30
-    -- upper immediates, jumps, fences
+    -- upper immediates, jumps, FENCE
     ∷ straight 0x800003B7 17 0x49BA00000080FFFFFFFF_4C899338000000  -- LUI x7, 0x80000
     ∷ straight 0x7FFFFFB7 17 0x49BA00F0FF7F00000000_4C8993F8000000  -- LUI x31, 0x7FFFF
     ∷ straight 0x80000417 17 0x49BA0000000000000000_4C899340000000  -- AUIPC x8, 0x80000
@@ -111,7 +111,6 @@ each-word =
     ∷ ending 0x010989E7 41 0x4C8B9398000000_4981C210000000_4981E2FEFFFFFF_49BB0400008000000000_4C899B98000000_4C89D0  -- JALR x19, x19, 16
     ∷ ending 0x8001F167 41 0x4C8B9318000000_4981C200F8FFFF_4981E2FEFFFFFF_49BB0400008000000000_4C899B10000000_4C89D0  -- JALR with funct3 7
     ∷ silent 0x0FF0000F  -- FENCE
-    ∷ silent 0x0000100F  -- FENCE.I
     ∷ silent 0x0000008F  -- FENCE, rd x1
     -- rd x0: computed without the store; LUI and AUIPC give nothing
     ∷ straight 0x00208033 17 0x4C8B9308000000_4C8B9B10000000_4D01DA  -- ADD
@@ -202,6 +201,32 @@ runs =
     ∷ run 0xFFFFFFFFFFFFFFFC 64 (words (0xFFDFF0EF ∷ [])) 2243 0 (84 ∷ 1 ∷ [])  -- JAL, its link 0
     (framed (dump 37 0x49BA0000000000000000_4C899308000000_48B8F8FFFFFFFFFFFFFF_48BA0100000000000000)) ∷ []
 
+-- FENCE.I ends its block (document 02, Q-1): the Rust's block of the run cut behind it. FENCE does not end it: the Rust's of the whole run
+fences : List Vector
+fences =
+    run 0x80000000 64 (words (0x0000108F ∷ 0x00500093 ∷ [])) 2243 0 (67 ∷ 1 ∷ [])  -- FENCE.I, rd x1
+    (framed (dump 20 0x48B80400008000000000_48BA0100000000000000))
+    ∷ run 0x80000000 64 (words (0xFFFFFF8F ∷ [])) 2243 4 (0xFFFFFF8F ∷ []) []  -- MISC-MEM funct3 7
+    ∷ run 0x80000000 64 (words (0xFFFF9F8F ∷ 0x00500093 ∷ [])) 2243 0 (67 ∷ 1 ∷ [])  -- FENCE.I, all other fields ones
+    (framed (dump 20 0x48B80400008000000000_48BA0100000000000000))
+    ∷ run 0x80000000 64 (words (0x0000000F ∷ 0x00500093 ∷ [])) 2243 0 (88 ∷ 2 ∷ [])  -- FENCE
+    (framed (dump 41 0x4C8B9300000000_4981C205000000_4C899308000000_48B80800008000000000_48BA0200000000000000))
+    ∷ run 0x80000000 64 (words (0x00500093 ∷ 0x0000100F ∷ 0x00500093 ∷ [])) 2243 0 (88 ∷ 2 ∷ [])  -- between two
+    (framed (dump 41 0x4C8B9300000000_4981C205000000_4C899308000000_48B80800008000000000_48BA0200000000000000))
+    ∷ run 0x80000000 64 (words (0x00000013 ∷ 0x0000100F ∷ [])) 2243 0 (81 ∷ 2 ∷ [])  -- the run's last
+    (framed (dump 34 0x4C8B9300000000_4981C200000000_48B80800008000000000_48BA0200000000000000))
+    ∷ run 0xFFFFFFFFFFFFFFFC 64 (words (0x0000100F ∷ 0x00500093 ∷ [])) 2243 0 (67 ∷ 1 ∷ [])  -- RAX gets 0
+    (framed (dump 20 0x48B80000000000000000_48BA0100000000000000))
+    ∷ run 0x80000000 64 (words (0x0000100F ∷ []) ++ 0x0001 ∷ []) 2243 0 (67 ∷ 1 ∷ [])  -- a halfword behind
+    (framed (dump 20 0x48B80400008000000000_48BA0100000000000000))
+    ∷ run 0x80000000 64 (copies 63 (words (0x01FF1EBB ∷ [])) ++ words (0x0000100F ∷ [])) 2243 0 (2209 ∷ 64 ∷ [])  -- the 64th, SLLW before
+    (framed (copies 63 (dump 34 0x4C8B93F0000000_4C8B9BF8000000_4C89D9_4883E11F_41D3E2_4D63D2_4C8993E8000000)
+    ++ dump 20 0x48B80001008000000000_48BA4000000000000000))
+    ∷ run 0x80000000 64 (copies 64 (words (0x0000000F ∷ []))) 2243 0 (67 ∷ 64 ∷ [])  -- 64 times FENCE
+    (framed (dump 20 0x48B80001008000000000_48BA4000000000000000))
+    ∷ run 0x80000000 64 (copies 64 (words (0x0000100F ∷ []))) 2243 0 (67 ∷ 1 ∷ [])  -- 64 times FENCE.I
+    (framed (dump 20 0x48B80400008000000000_48BA0100000000000000)) ∷ []
+
 -- every bit of a word by itself, then all of them
 bits : List Vector
 bits =
@@ -246,6 +271,10 @@ each-word-passes = refl
 runs-pass : pass runs ≡ true
 unfolding immediates translations tests runs
 runs-pass = refl
+
+fences-pass : pass fences ≡ true
+unfolding immediates translations tests fences
+fences-pass = refl
 
 bits-pass : pass bits ≡ true
 unfolding immediates tests holds bits

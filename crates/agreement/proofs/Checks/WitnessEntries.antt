@@ -7,8 +7,9 @@ use native.Mathlib.Omega.{arith}
 use lib.Dec.{eqb}
 use lib.ListN.{length}
 use Rattle.agreement.specs.Common.{Helper, Helper.forAccess, Helper.forHalfword}
-use Rattle.agreement.specs.Riscv.Run.{GuestState, Stop.called}
-use Rattle.agreement.specs.Statement.Agreement.{isRefused, own}
+use Rattle.agreement.specs.Riscv.Code.{Code}
+use Rattle.agreement.specs.Riscv.Run.{GuestState, Stop.called, help}
+use Rattle.agreement.specs.Statement.Agreement.{Helped, isRefused, own}
 use Rattle.agreement.specs.Statement.Machine.{Call, Event, RegisterBytes, Visit, enter}
 use Rattle.agreement.specs.Translation.Replies.{walked}
 use Rattle.agreement.specs.Translation.Walk.{instrs}
@@ -19,7 +20,7 @@ use Rattle.agreement.specs.X86.Step.{all}
 use Rattle.agreement.proofs.Checks.Cases.{words}
 use Rattle.agreement.proofs.Checks.CasesHold.{immediates, translations}
 use Rattle.agreement.proofs.Checks.Example.{halfwordTurn, helperTurn, leaves, plainTurn, turnOf}
-use Rattle.agreement.proofs.Checks.ExampleStates.{after-three, m0, m2, reads-a-turn, second-x1, x1-is}
+use Rattle.agreement.proofs.Checks.ExampleStates.{after-three, fourth-reads, m0, m2, reads-a-turn, second-x1, x1-is}
 use Rattle.agreement.proofs.Checks.PremisesMet.{Allowed, no-longer}
 use Rattle.agreement.proofs.Host.Memory.{read-ext}
 use Rattle.agreement.proofs.Laws.Tests.{eqb-true}
@@ -42,18 +43,18 @@ not-written P x (w ∷ ws) n h = go (P w) refl (eqb w x) refl (not-written P x w
     go false p c q f e = absurd (let z : _≡_ {A = ℕ} 0 1 = cc in omega arith)
 
 -- the stack at entry is the rest of memory: neither the register bytes nor the block stand there
-stack-is : (sp : ℕ) (hs : List ℕ) (h : State → State) (code : List ℕ) (rb : RegisterBytes) (i : ℕ) → Allowed sp → length code ≤ 2243
-    → enter (turnOf sp hs h) code rb .mem (sp + i) ≡ (sp + i) % 256
+stack-is : (sp : ℕ) (g : Code) (hs : List ℕ) (h : State → State) (code : List ℕ) (rb : RegisterBytes) (i : ℕ) → Allowed sp → length code ≤ 2243
+    → enter (turnOf sp g hs h) code rb .mem (sp + i) ≡ (sp + i) % 256
 unfolding enter
-stack-is sp hs h code rb i s l =
+stack-is sp g hs h code rb i s l =
     overlay-out (overlay (λ a. a % 256) 0x10000 256 rb) 0x20000 (length code) (nth code) (sp + i) (λ j k. omega (arith, s .above))
     ∙ overlay-out (λ a. a % 256) 0x10000 256 rb (sp + i) (λ j k. omega (arith, s .above))
 
-return-address : (sp : ℕ) (hs : List ℕ) (h : State → State) (code : List ℕ) (rb : RegisterBytes) → Allowed sp → length code ≤ 2243
-    → read 8 (enter (turnOf sp hs h) code rb .mem) sp ≡ read 8 (λ a. a % 256) sp
-return-address sp hs h code rb s l =
-    read-ext 8 (enter (turnOf sp hs h) code rb .mem) (λ a. a % 256) sp (omega (arith, s .fits)) (λ i k.
-    let z : at sp i ≡ sp + i = omega (arith, s .fits) in rw z (stack-is sp hs h code rb i s l))
+return-address : (sp : ℕ) (g : Code) (hs : List ℕ) (h : State → State) (code : List ℕ) (rb : RegisterBytes) → Allowed sp → length code ≤ 2243
+    → read 8 (enter (turnOf sp g hs h) code rb .mem) sp ≡ read 8 (λ a. a % 256) sp
+return-address sp g hs h code rb s l =
+    read-ext 8 (enter (turnOf sp g hs h) code rb .mem) (λ a. a % 256) sp (omega (arith, s .fits)) (λ i k.
+    let z : at sp i ≡ sp + i = omega (arith, s .fits) in rw z (stack-is sp g hs h code rb i s l))
 
 -- an entry at the stack pointer sp, of a block of n instructions, returning to the address a: RBX, RBP and R12 to R15 hold
 -- 100 and their number; slot x0 and the first and last of the 8 bytes below the saved registers are not written
@@ -74,19 +75,19 @@ pub record EntrySays (sp a n : ℕ) (v : Visit) : Type 0 where
   pub pad-end-unwritten : all (λ y. not (eqb y (sp - 49))) (v .log) ≡ true
 
 -- what holds at sp alone: the return address, and which addresses are not the block's to write
-pub record Numbers (sp a : ℕ) (hs : List ℕ) (h : State → State) : Type 0 where
+pub record Numbers (sp a : ℕ) (g : Code) (hs : List ℕ) (h : State → State) : Type 0 where
   pub allowed : Allowed sp
   pub address : read 8 (λ x. x % 256) sp ≡ a
-  pub x0 : own (turnOf sp hs h) 0x10000 ≡ false
-  pub pad : own (turnOf sp hs h) (sp - 56) ≡ false
-  pub pad-end : own (turnOf sp hs h) (sp - 49) ≡ false
+  pub x0 : own (turnOf sp g hs h) 0x10000 ≡ false
+  pub pad : own (turnOf sp g hs h) (sp - 56) ≡ false
+  pub pad-end : own (turnOf sp g hs h) (sp - 49) ≡ false
 
-entry-says : (sp a n : ℕ) (hs : List ℕ) (h : State → State) (m : GuestState) (e : Event) (w : WasEntered m (turnOf sp hs h) e)
-    → Numbers sp a hs h → length (instrs 0x1111 0x2222 (walked (m .pc) 64 hs)) ≡ n → EntrySays sp a n (w .v)
-entry-says sp a n hs h m e w k s = record {
+entry-says : (sp a n : ℕ) (g : Code) (hs : List ℕ) (h : State → State) (m : GuestState) (e : Event) (w : WasEntered m (turnOf sp g hs h) e)
+    → Numbers sp a g hs h → length (instrs 0x1111 0x2222 (walked (m .pc) 64 hs)) ≡ n → EntrySays sp a n (w .v)
+entry-says sp a n g hs h m e w k s = record {
   x0-entry = w .returns .entry-x0;
   x0-exit = w .returns .exit-x0;
-  rip = w .returns .rip ∙ rw (w .entry) (return-address sp hs h (w .b .code) (w .rb) (k .allowed) short ∙ k .address);
+  rip = w .returns .rip ∙ rw (w .entry) (return-address sp g hs h (w .b .code) (w .rb) (k .allowed) short ∙ k .address);
   rsp = w .returns .rsp;
   rbx = w .returns .rbx ∙ rw (w .entry) (held RBX refl refl);
   rbp = w .returns .rbp ∙ rw (w .entry) (held RBP refl refl);
@@ -95,15 +96,15 @@ entry-says sp a n hs h m e w k s = record {
   r14 = w .returns .r14 ∙ rw (w .entry) (held R14 refl refl);
   r15 = w .returns .r15 ∙ rw (w .entry) (held R15 refl refl);
   steps = w .returns .steps ∙ s;
-  x0-unwritten = not-written (own (turnOf sp hs h)) 0x10000 (w .v .log) (k .x0) (w .returns .log);
-  pad-unwritten = not-written (own (turnOf sp hs h)) (sp - 56) (w .v .log) (k .pad) (w .returns .log);
-  pad-end-unwritten = not-written (own (turnOf sp hs h)) (sp - 49) (w .v .log) (k .pad-end) (w .returns .log);
+  x0-unwritten = not-written (own (turnOf sp g hs h)) 0x10000 (w .v .log) (k .x0) (w .returns .log);
+  pad-unwritten = not-written (own (turnOf sp g hs h)) (sp - 56) (w .v .log) (k .pad) (w .returns .log);
+  pad-end-unwritten = not-written (own (turnOf sp g hs h)) (sp - 49) (w .v .log) (k .pad-end) (w .returns .log);
 }
   where
     short : length (w .b .code) ≤ 2243
-    short = no-longer (turnOf sp hs h) (w .pc) (w .b) (w .reply-is)
+    short = no-longer (turnOf sp g hs h) (w .pc) (w .b) (w .reply-is)
 
-    held : (r : ℕ) → eqb r RSP ≡ false → eqb r RDI ≡ false → enter (turnOf sp hs h) (w .b .code) (w .rb) .regs r ≡ 100 + r
+    held : (r : ℕ) → eqb r RSP ≡ false → eqb r RDI ≡ false → enter (turnOf sp g hs h) (w .b .code) (w .rb) .regs r ≡ 100 + r
     held r p q = unfold enter in rw (p, q)
 
 -- 2. With a helper: ADDI x1, x0, 5; LD x1, 0(x1), entered at 0xFFFFFFFFFFFFFFF8 with all registers 0
@@ -138,7 +139,7 @@ pub record HelperSays (pc n : ℕ) (v : Visit) (c : Call) : Type 0 where
 instruction-is : (h k : Helper) (i j : ℕ) → called h i ≡ called k j → (h ≡ k) × (i ≡ j)
 instruction-is h k i j e = (cc, cc)
 
-helper-numbers : Numbers 0x30008 0x0F0E0D0C0B0A0908 (helperTurn .halfwords) (helperTurn .helper)
+helper-numbers : Numbers 0x30008 0x0F0E0D0C0B0A0908 (helperTurn .code) (helperTurn .made) (helperTurn .helper)
 unfolding read own
 helper-numbers = record {
   allowed = record { above = omega arith; fits = omega arith; aligned = refl };
@@ -148,7 +149,7 @@ helper-numbers = record {
   pad-end = refl;
 }
 
-helper-instructions : length (instrs 0x1111 0x2222 (walked (m0 .pc) 64 (helperTurn .halfwords))) ≡ 32
+helper-instructions : length (instrs 0x1111 0x2222 (walked (m0 .pc) 64 (helperTurn .made))) ≡ 32
 unfolding translations immediates words
 helper-instructions = refl
 
@@ -158,7 +159,7 @@ helper-says w =
     let k = w .says in
     let j = instruction-is (k .h) forAccess (k .i) 0x0000B083 (sym (k .stop)) in
     record {
-      entry = entry-says 0x30008 0x0F0E0D0C0B0A0908 32 _ _ m0 _ (w .was) helper-numbers helper-instructions;
+      entry = entry-says 0x30008 0x0F0E0D0C0B0A0908 32 _ _ _ m0 _ (w .was) helper-numbers helper-instructions;
       accepted = w .was .returns .accepted;
       entry-pc = w .was .returns .entry-pc;
       entry-x1 = w .was .returns .entry-slots 1 (omega arith) ∙ (unfold read in refl);
@@ -195,7 +196,7 @@ pub record PlainSays (pc n : ℕ) (v : Visit) : Type 0 where
   pub pad-end : v .exit .mem 0x2FFE7 ≡ v .entry .mem 0x2FFE7
   pub count : n ≡ 2
 
-plain-numbers : Numbers 0x30018 0x1F1E1D1C1B1A1918 (plainTurn .halfwords) (plainTurn .helper)
+plain-numbers : Numbers 0x30018 0x1F1E1D1C1B1A1918 (plainTurn .code) (plainTurn .made) (plainTurn .helper)
 unfolding read own
 plain-numbers = record {
   allowed = record { above = omega arith; fits = omega arith; aligned = refl };
@@ -205,7 +206,7 @@ plain-numbers = record {
   pad-end = refl;
 }
 
-plain-instructions : (a : State) → length (instrs 0x1111 0x2222 (walked (m2 a .pc) 64 (plainTurn .halfwords))) ≡ 32
+plain-instructions : (a : State) → length (instrs 0x1111 0x2222 (walked (m2 a .pc) 64 (plainTurn .made))) ≡ 32
 unfolding translations immediates words leaves
 plain-instructions a = refl
 
@@ -215,7 +216,7 @@ plain-says a w =
     let k = w .says in
     let s = after-three a in
     record {
-      entry = entry-says 0x30018 0x1F1E1D1C1B1A1918 32 _ _ (m2 a) _ (w .was) plain-numbers (plain-instructions a);
+      entry = entry-says 0x30018 0x1F1E1D1C1B1A1918 32 _ _ _ (m2 a) _ (w .was) plain-numbers (plain-instructions a);
       entry-pc = w .was .returns .entry-pc;
       entry-x1 = w .was .returns .entry-slots 1 (omega arith) ∙ x1-is a;
       rax = k .rax ∙ s .pc;
@@ -240,7 +241,7 @@ pub record HalfwordSays (n : ℕ) (v : Visit) (c : Call) : Type 0 where
   pub rdx′ : v .exit .regs RDX ≡ 1
   pub count : n ≡ 1
 
-halfword-numbers : Numbers 0xFFFFFFFFFFFFFFF8 0xFFFEFDFCFBFAF9F8 (halfwordTurn .halfwords) (halfwordTurn .helper)
+halfword-numbers : Numbers 0xFFFFFFFFFFFFFFF8 0xFFFEFDFCFBFAF9F8 (halfwordTurn .code) (halfwordTurn .made) (halfwordTurn .helper)
 unfolding read own
 halfword-numbers = record {
   allowed = record { above = omega arith; fits = omega arith; aligned = refl };
@@ -250,21 +251,22 @@ halfword-numbers = record {
   pad-end = refl;
 }
 
-halfword-instructions : (m : GuestState) → length (instrs 0x1111 0x2222 (walked (m .pc) 64 (halfwordTurn .halfwords))) ≡ 28
+halfword-instructions : (m : GuestState) → length (instrs 0x1111 0x2222 (walked (m .pc) 64 (halfwordTurn .made))) ≡ 28
 unfolding translations immediates words
 halfword-instructions m = refl
 
 pub halfword-says : {e : Event} (m : GuestState) (w : WentHelped m halfwordTurn e) → m .pc ≡ 0x80000024
     → HalfwordSays (w .was .b .count) (w .was .v) (w .call)
-unfolding reads-a-turn
+unfolding leaves
 halfword-says m w e =
-    let k = w .says in
+    let k : Helped halfwordTurn (w .was .b .count) (w .was .v) (w .call) (help (m .registers) 0x80000024 forHalfword 0x4501) =
+    rw (fourth-reads m e) at (w .says) in
     let j = instruction-is (k .h) forHalfword (k .i) 0x4501 (sym (k .stop)) in
-    let s = entry-says 0xFFFFFFFFFFFFFFF8 0xFFFEFDFCFBFAF9F8 28 _ _ m _ (w .was) halfword-numbers (halfword-instructions m) in
+    let s = entry-says 0xFFFFFFFFFFFFFFF8 0xFFFEFDFCFBFAF9F8 28 _ _ _ m _ (w .was) halfword-numbers (halfword-instructions m) in
     record {
       entry = s;
       stack = s .rsp;
-      r8 = k .r8 ∙ e;
+      r8 = k .r8;
       rcx = k .rcx ∙ j .1;
       rsp = k .rsp;
       aligned = k .aligned;

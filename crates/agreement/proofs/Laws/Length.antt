@@ -24,7 +24,7 @@ use Rattle.agreement.specs.Translation.Replies.First.{begins, lacks, unt
 use Rattle.agreement.specs.Translation.Replies.Refusal.{limitZero, oddStart, outputShort}
 use Rattle.agreement.specs.Translation.Replies.Reply.{block, refusal}
 use Rattle.agreement.specs.Translation.Walk.{End, Walked, before, emit, ending, helperAt, helps, instrs, jumps, notTakenAt, stopsAt}
-use Rattle.agreement.specs.Translation.Walk.{walk}
+use Rattle.agreement.specs.Translation.Walk.{stopsBehind, walk}
 use Rattle.agreement.specs.Translation.Walk.End.{calls, goesOn, jumped}
 use Rattle.agreement.specs.Statement.Agreement.{start}
 use Rattle.agreement.specs.X86.Encode.{bytes}
@@ -172,6 +172,10 @@ sized-stops : (n pc : ℕ) → Sized n (stopsAt pc)
 unfolding least most
 sized-stops n pc = record { low = omega arith; high = omega arith }
 
+sized-stops-behind : (n : ℕ) (is : List Instr) (pc : ℕ) → len is ≤ 34 → Sized (suc n) (stopsBehind is pc)
+unfolding least most
+sized-stops-behind n is pc l = record { low = omega arith; high = omega (arith, l) }
+
 sized-helps : (n : ℕ) (h : Helper) (i pc : ℕ) → Sized (suc n) (helps h i pc)
 unfolding least most
 sized-helps n h i pc = record { low = omega arith; high = omega arith }
@@ -190,7 +194,7 @@ sized-emit AUIPC n pc w p s =
     sized-before n (codeConst (Decode32.rd w) (plus pc (Decode32.immU w))) p
     (omega (arith, len-const (Decode32.rd w) (plus pc (Decode32.immU w)))) s
 sized-emit FENCE n pc w p s = sized-before n [] p (omega arith) s
-sized-emit FENCE·I n pc w p s = sized-before n [] p (omega arith) s
+sized-emit FENCE·I n pc w p s = sized-stops-behind n [] _ (omega arith)
 sized-emit (branch c) n pc w p s =
     let l = len-branch c (Decode32.rs1 w) (Decode32.rs2 w) (plus pc 4) (plus pc (Decode32.immB w)) in
     sized-jumps n (codeBranch c (Decode32.rs1 w) (Decode32.rs2 w) (plus pc 4) (plus pc (Decode32.immB w))) (omega arith) (omega arith)

@@ -19,7 +19,7 @@ use Rattle.agreement.specs.Translation.Walk.{Walked, walk, emit}
 use Rattle.agreement.specs.Translation.Replies.{First, Reply, first, byFirst, blockOf, translate}
 use Rattle.agreement.specs.Translation.Replies.Reply.{refusal}
 use Rattle.agreement.specs.Translation.Replies.Refusal.{limitZero, oddStart}
-use Rattle.agreement.specs.Laws.{KindsWalk, WalksBy, NeedsNoMore}
+use Rattle.agreement.specs.Laws.{KindsWalk, WalksBy, Ends.sets, Ends.leaves, NeedsNoMore}
 use Rattle.agreement.proofs.Laws.Matches.{decide}
 
 pub kinds-walk : KindsWalk
@@ -29,10 +29,10 @@ kinds-walk (opImm o) pc w = record { code = codeOpImm o (rd w) (rs1 w) (imm32 w)
 kinds-walk LUI pc w = record { code = codeConst (rd w) (immU w); on = λ p. refl }
 kinds-walk AUIPC pc w = record { code = codeConst (rd w) (wrappingAdd pc (immU w)); on = λ p. refl }
 kinds-walk FENCE pc w = record { code = []; on = λ p. refl }
-kinds-walk FENCE·I pc w = record { code = []; on = λ p. refl }
-kinds-walk (branch c) pc w = record { code = _; ends = λ p. refl }
-kinds-walk JAL pc w = record { code = _; ends = λ p. refl }
-kinds-walk JALR pc w = record { code = _; ends = λ p. refl }
+kinds-walk FENCE·I pc w = leaves [] (λ p. refl)
+kinds-walk (branch c) pc w = sets _ (λ p. refl)
+kinds-walk JAL pc w = sets _ (λ p. refl)
+kinds-walk JALR pc w = sets _ (λ p. refl)
 kinds-walk (access a) pc w = λ p. refl
 kinds-walk (unmodelled u) pc w = λ p. refl
 kinds-walk other pc w = λ p. refl
@@ -45,7 +45,7 @@ emit-alike (opImm o) pc w h = ap (emit (opImm o) pc w) (h refl)
 emit-alike LUI pc w h = ap (emit LUI pc w) (h refl)
 emit-alike AUIPC pc w h = ap (emit AUIPC pc w) (h refl)
 emit-alike FENCE pc w h = ap (emit FENCE pc w) (h refl)
-emit-alike FENCE·I pc w h = ap (emit FENCE·I pc w) (h refl)
+emit-alike FENCE·I pc w h = refl
 emit-alike (branch c) pc w h = refl
 emit-alike JAL pc w h = refl
 emit-alike JALR pc w h = refl

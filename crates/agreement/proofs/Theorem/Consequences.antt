@@ -101,7 +101,7 @@ after-call : (t : Turn) (m : GuestState) (c : Call) (h : Helper) (i : ℕ) → i
 unfolding feedOf leftBy
 after-call t m c h i f st z =
     let l : Left = record { slots = λ r. read 8 (c .back .mem) (t .base + 8 * r); rax = c .back .regs RAX } in
-    let g : Feed = record { limit = t .limit; halfwords = t .halfwords; room = length (t .output); left = some l } in
+    let g : Feed = record { limit = t .limit; code = t .code; reach = t .reach; room = length (t .output); left = some l } in
     turn-called g m h i l f st refl ∙ rw z
 
 pub record WentHelped (m : GuestState) (t : Turn) (e : Event) : Type 0 where

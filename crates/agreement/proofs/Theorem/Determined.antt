@@ -113,12 +113,12 @@ block-once a b e = cc
 not-block : (a : Block) (r : Refusal) → block a ≡ refusal r → ⊥
 not-block a r e = let z : _≡_ {A = ℕ} 0 1 = cc in omega arith
 
-record SameTurn (e f : Event) (pc pc′ : ℕ) (rb rb′ : RegisterBytes) : Type 0 where
-  events : e ≡ f
-  pcs : pc ≡ pc′
-  bytes : rb ≡ rb′
+pub record SameTurn (e f : Event) (pc pc′ : ℕ) (rb rb′ : RegisterBytes) : Type 0 where
+  pub events : e ≡ f
+  pub pcs : pc ≡ pc′
+  pub bytes : rb ≡ rb′
 
-turned-once : {pc pc′ pc″ : ℕ} {rb rb′ rb″ : RegisterBytes} {t : Turn} {e f : Event}
+pub turned-once : {pc pc′ pc″ : ℕ} {rb rb′ rb″ : RegisterBytes} {t : Turn} {e f : Event}
     → Turned pc rb t e pc′ rb′ → Turned pc rb t f pc″ rb″ → SameTurn e f pc′ pc″ rb′ rb″
 turned-once (skip {r = r} e) (skip {r = s} f) = let q = refusal-once r s (sym e ∙ f) in record { events = rw q; pcs = refl; bytes = refl }
 turned-once (skip {r = r} e) (visit {b = b} f w) = absurd (not-block b r (sym f ∙ e))

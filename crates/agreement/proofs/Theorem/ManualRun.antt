@@ -13,7 +13,7 @@ use Rattle.agreement.specs.Riscv.Instruction.{Instruction, branches}
 use Rattle.agreement.specs.Riscv.Instruction.Instruction.{AUIPC, FENCE, FENCE·I, JAL, JALR, LUI, access, branch, op, opImm, other}
 use Rattle.agreement.specs.Riscv.Instruction.Instruction.{unmodelled}
 use Rattle.agreement.specs.Riscv.Run.{Feed, GuestState, Left, Read, Registers, does, halt, help, isLong, oneMore, readTurn, reading}
-use Rattle.agreement.specs.Riscv.Run.{refused, resume, settle, taken, turn, wordOf, writeX}
+use Rattle.agreement.specs.Riscv.Run.{refused, resume, runOf, settle, taken, turn, wordOf, writeX}
 use Rattle.agreement.specs.Riscv.Run.Stop.{called, plain}
 use Rattle.agreement.proofs.Laws.Tests.{eqb-no, eqb-yes}
 use Rattle.agreement.specs.Riscv.Immediates as Manual
@@ -42,7 +42,7 @@ stays-does (opImm o) pc w x k h f = stays-on x (rd w) _ k f
 stays-does LUI pc w x k h f = stays-on x (rd w) _ k f
 stays-does AUIPC pc w x k h f = stays-on x (rd w) _ k f
 stays-does FENCE pc w x k h f = let r = f x in record { x0 = r .x0; low = r .low }
-stays-does FENCE·I pc w x k h f = let r = f x in record { x0 = r .x0; low = r .low }
+stays-does FENCE·I pc w x k h f = record { x0 = refl; low = omega arith }
 stays-does (branch c) pc w x k h f = record { x0 = refl; low = go (branches c (x (rs1 w)) (x (rs2 w))) }
   where
     go : (t : Bool) → cond t (plus pc (Manual.immB w)) (plus pc 4) < 2 ^ 64
@@ -74,16 +74,16 @@ stays (suc n) pc (g ∷ u ∷ hs) x h = go (isLong g) (λ x. stays n (plus pc 4)
     go false f = record { x0 = refl; low = h }
 
 -- the state after a turn
-pub turn-plain : (f : Feed) (m : GuestState) → refused (f .limit) (m .pc) (f .halfwords) (f .room) ≡ false → readTurn f m .stop ≡ plain
+pub turn-plain : (f : Feed) (m : GuestState) → refused (f .limit) (m .pc) (runOf f m) (f .room) ≡ false → readTurn f m .stop ≡ plain
     → turn f m ≡ record { registers = readTurn f m .registers; pc = readTurn f m .pc; count = m .count + readTurn f m .added }
 unfolding turn settle
 turn-plain f m e p = rw (e, turn) (rw p)
 
-pub turn-called : (f : Feed) (m : GuestState) (h : Helper) (i : ℕ) (l : Left) → refused (f .limit) (m .pc) (f .halfwords) (f .room) ≡ false
+pub turn-called : (f : Feed) (m : GuestState) (h : Helper) (i : ℕ) (l : Left) → refused (f .limit) (m .pc) (runOf f m) (f .room) ≡ false
     → readTurn f m .stop ≡ called h i → f .left ≡ some l → turn f m ≡ record { registers = l .slots; pc = l .rax; count = 0 }
 unfolding turn settle resume
 turn-called f m h i l e p q = rw (e, turn) (rw p (rw q))
 
-pub turn-refused : (f : Feed) (m : GuestState) → refused (f .limit) (m .pc) (f .halfwords) (f .room) ≡ true → turn f m ≡ m
+pub turn-refused : (f : Feed) (m : GuestState) → refused (f .limit) (m .pc) (runOf f m) (f .room) ≡ true → turn f m ≡ m
 unfolding turn
 turn-refused f m e = rw (e, turn)

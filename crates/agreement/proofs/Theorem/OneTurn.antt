@@ -18,7 +18,7 @@ use Rattle.agreement.specs.Statement.Agreement.{leftBy, own}
 use Rattle.agreement.specs.Statement.Machine.{By, Call, RegisterBytes, Steps, Turn, Visit, Went, bytesAfter, enter, plusRdx, reply}
 use Rattle.agreement.specs.Statement.Machine.Event.{visited}
 use Rattle.agreement.specs.Statement.Machine.Went.{helped, plainly}
-use Rattle.agreement.specs.Statement.Premises.{Enterable, Keeps, Layout, Typed}
+use Rattle.agreement.specs.Statement.Premises.{Enterable, Keeps, Layout, Typed, Unchanged}
 use Rattle.agreement.specs.X86.Decode.{Bytes, Operand.mem}
 use Rattle.agreement.specs.X86.Encode.{bytes, encode}
 use Rattle.agreement.specs.X86.Form.{Alu.add, Instr, Instr.aluImm32, Instr.callRax, Instr.ret, Ok, RAX, RDI, RDX, RSP}
@@ -202,10 +202,10 @@ pub record Done (t : Turn) (m : GuestState) (rb : RegisterBytes) : Type 0 where
   pub x0 : m2 .registers 0 ≡ 0
   pub low : m2 .pc < 2 ^ 64
 
-module _ (t : Turn) (m : GuestState) (rb : RegisterBytes) (ty : Typed t) (low : m .pc < 2 ^ 64)
+module _ (t : Turn) (m : GuestState) (rb : RegisterBytes) (ty : Typed t) (un : Unchanged t (m .pc)) (low : m .pc < 2 ^ 64)
     (sl : (r : ℕ) → r < 32 → read 8 rb (8 * r) ≡ m .registers r) (zero0 : m .registers 0 ≡ 0) where
   abbrev p : Walked
-  p = walked (m .pc) (t .limit) (t .halfwords)
+  p = walked (m .pc) (t .limit) (t .made)
 
   abbrev b : Block
   b = blockOf (t .helper16) (t .helperMem) p
@@ -219,12 +219,13 @@ module _ (t : Turn) (m : GuestState) (rb : RegisterBytes) (ty : Typed t) (low : 
   abbrev q : Read
   q = readTurn (feedOf t none) m
 
-  q-is : readTurn (feedOf t none) m ≡ reading limit (m .pc) (t .halfwords) (m .registers)
+  -- the manual's run reads the code; the block was made from the same run
+  q-is : readTurn (feedOf t none) m ≡ reading limit (m .pc) (t .made) (m .registers)
   unfolding feedOf
-  q-is = refl
+  q-is = ap (λ (hs : List ℕ). reading limit (m .pc) hs (m .registers)) (sym un)
 
   bounds : Bounds limit p
-  bounds = walk-ok limit (m .pc) (t .halfwords) low (ty .halfwords)
+  bounds = walk-ok limit (m .pc) (t .made) low (ty .made)
 
   module _ (re : reply t (m .pc) ≡ block b) (rf : isRefused t m ≡ false) (en : Enterable t b rb) where
     ly : Layout t (length code)
@@ -235,7 +236,7 @@ module _ (t : Turn) (m : GuestState) (rb : RegisterBytes) (ty : Typed t) (low : 
 
     agrees : (s : State) → Slots (t .base) (m .registers) s → Agree (t .undefined) (t .base) (pl .b-fits) p q s
     agrees s h =
-        rw q-is (agree (t .undefined) (t .base) (pl .b-fits) limit (m .pc) (t .halfwords) (m .registers) s (ty .halfwords) h)
+        rw q-is (agree (t .undefined) (t .base) (pl .b-fits) limit (m .pc) (t .made) (m .registers) s (ty .made) h)
 
     -- a state with these slots, to read off what does not depend on the state
     abbrev some-state : State
@@ -262,7 +263,7 @@ module _ (t : Turn) (m : GuestState) (rb : RegisterBytes) (ty : Typed t) (low : 
     sp-is = omega (arith, ly .stack-low)
 
     kept : Stays (m .registers) q
-    kept = rw q-is (stays limit (m .pc) (t .halfwords) (m .registers) low)
+    kept = rw q-is (stays limit (m .pc) (t .made) (m .registers) low)
 
     no-log : all (own t) [] ≡ true
     no-log = unfold all in refl
@@ -339,7 +340,7 @@ module _ (t : Turn) (m : GuestState) (rb : RegisterBytes) (ty : Typed t) (low : 
 
     -- what the turn feeds to the manual's run, what the helper left among it
     abbrev fed : Left → Feed
-    fed l = record { limit = t .limit; halfwords = t .halfwords; room = length (t .output); left = some l }
+    fed l = record { limit = t .limit; code = t .code; reach = t .reach; room = length (t .output); left = some l }
 
     target-is : (k : Helper) → helperAt k (t .helper16) (t .helperMem) ≡ helperOf t k
     target-is forHalfword = refl

@@ -69,21 +69,21 @@ first-is (h ∷ u ∷ hs) l = go (isLong h) refl (chosen (taken (wordOf h u))) r
 -- 2. The reply
 
 abbrev blockAt : Turn → ℕ → Block
-blockAt t pc = blockOf (t .helper16) (t .helperMem) (walked pc (t .limit) (t .halfwords))
+blockAt t pc = blockOf (t .helper16) (t .helperMem) (walked pc (t .limit) (t .made))
 
 abbrev turnRefused : Turn → ℕ → Bool
-turnRefused t pc = refused (t .limit) pc (t .halfwords) (length (t .output))
+turnRefused t pc = refused (t .limit) pc (t .made) (length (t .output))
 
 pub data Replied (t : Turn) (pc : ℕ) : Type 0 where
-  out : (r : Refusal) → reply t pc ≡ refusal r → refused (t .limit) pc (t .halfwords) (length (t .output)) ≡ true → Replied t pc
-  came : reply t pc ≡ block (blockOf (t .helper16) (t .helperMem) (walked pc (t .limit) (t .halfwords)))
-      → refused (t .limit) pc (t .halfwords) (length (t .output)) ≡ false → Replied t pc
+  out : (r : Refusal) → reply t pc ≡ refusal r → refused (t .limit) pc (t .made) (length (t .output)) ≡ true → Replied t pc
+  came : reply t pc ≡ block (blockOf (t .helper16) (t .helperMem) (walked pc (t .limit) (t .made)))
+      → refused (t .limit) pc (t .made) (length (t .output)) ≡ false → Replied t pc
 
-pub replied : (t : Turn) (pc : ℕ) → Halfwords (t .halfwords) → Replied t pc
-replied t pc l = go (eqb (t .limit) 0) (eqb (pc % 2) 1) (ltb (length (t .output)) greatest) refl refl refl (first-is (t .halfwords) l)
+pub replied : (t : Turn) (pc : ℕ) → Halfwords (t .made) → Replied t pc
+replied t pc l = go (eqb (t .limit) 0) (eqb (pc % 2) 1) (ltb (length (t .output)) greatest) refl refl refl (first-is (t .made) l)
   where
     go : (a b c : Bool) → eqb (t .limit) 0 ≡ a → eqb (pc % 2) 1 ≡ b
-        → ltb (length (t .output)) greatest ≡ c → FirstIs (t .halfwords) → Replied t pc
+        → ltb (length (t .output)) greatest ≡ c → FirstIs (t .made) → Replied t pc
     go true b c p q r f = out limitZero (unfold translate in rw (p, translate)) (unfold refused in rw p)
     go false true c p q r f = out (oddStart pc) (unfold translate in rw (p, translate) (rw q)) (unfold refused in rw (p, q))
     go false false c p q r (lacks-first i e h) =
@@ -113,7 +113,7 @@ emit-ok (opImm o) n pc w p h l s = record { end-ok = s .end-ok; few = omega (ari
 emit-ok LUI n pc w p h l s = record { end-ok = s .end-ok; few = omega (arith, s .few) }
 emit-ok AUIPC n pc w p h l s = record { end-ok = s .end-ok; few = omega (arith, s .few) }
 emit-ok FENCE n pc w p h l s = record { end-ok = s .end-ok; few = omega (arith, s .few) }
-emit-ok FENCE·I n pc w p h l s = record { end-ok = s .end-ok; few = omega (arith, s .few) }
+emit-ok FENCE·I n pc w p h l s = omega arith
 emit-ok (branch c) n pc w p h l s = omega arith
 emit-ok JAL n pc w p h l s = omega arith
 emit-ok JALR n pc w p h l s = omega arith

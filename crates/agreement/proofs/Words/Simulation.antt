@@ -13,7 +13,7 @@ use Rattle.agreement.specs.Riscv.Run.{Read, Registers, Stop, does, halt,
 use Rattle.agreement.specs.Riscv.Run.Stop.{called, plain}
 use Rattle.agreement.specs.Translation.Emit.{codeBranch, codeConst, codeJal, codeJalr, codeOp, codeOpImm, compare, leftover, loadReg}
 use Rattle.agreement.specs.Translation.Kind.{kind}
-use Rattle.agreement.specs.Translation.Walk.{End, Walked, before, emit, helps, jumps, notTakenAt, stopsAt, walk}
+use Rattle.agreement.specs.Translation.Walk.{End, Walked, before, emit, helps, jumps, notTakenAt, stopsAt, stopsBehind, walk}
 use Rattle.agreement.specs.Translation.Walk.End.{calls, goesOn, jumped}
 use Rattle.agreement.specs.Statement.Machine.{History.end}
 use Rattle.agreement.specs.Statement.Premises.{Halfwords}
@@ -94,6 +94,11 @@ module _ (undefined : State → Flags) (b : ℕ) (fits : b + 256 ≤ 2 ^ 64) whe
   unfolding Next
   jumping is x pc s f j = record { fit = f; slots = j .slots; same = refl; next = (j .rax, refl) }
 
+  stopping : (is : List Instr) (x : Registers) (pc : ℕ) (s : State) → Fit is
+      → Slots b x (run undefined is s) → Agree (stopsBehind is pc) (jump x pc) s
+  unfolding Next
+  stopping is x pc s f h = record { fit = f; slots = h; same = refl; next = (refl, refl) }
+
   -- a straight word before a walk
   then : (is : List Instr) (p : Walked) (r : Read) (s : State) → Fit is → Agree p r (run undefined is s) → Agree (before is p) (oneMore r) s
   then is p r s f a = record {
@@ -127,7 +132,7 @@ module _ (undefined : State → Flags) (b : ℕ) (fits : b + 256 ≤ 2 ^ 64) whe
       (fit-const (rd w) (plus pc (Manual.immU w)) (omega arith) (plus-lt pc (Manual.immU w)))
       (f _ _ (const-slots undefined b fits x s (rd w) (plus pc (Manual.immU w)) h (omega arith) (plus-lt pc (Manual.immU w)))))
   agree-word FENCE pc w p x k s lw h f = then [] p (k x) s fit-nil (unfold run in f x s h)
-  agree-word FENCE·I pc w p x k s lw h f = then [] p (k x) s fit-nil (unfold run in f x s h)
+  agree-word FENCE·I pc w p x k s lw h f = stopping _ x _ s fit-nil (unfold run in h)
   agree-word (branch c) pc w p x k s lw h f = rw (immB-is w, rs1-is w, rs2-is w)
       (jumping (codeBranch c (rs1 w) (rs2 w) (plus pc 4) (plus pc (Manual.immB w))) x _ s
       (fit-branch c (rs1 w) (rs2 w) (plus pc 4) (plus pc (Manual.immB w))

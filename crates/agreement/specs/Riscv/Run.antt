@@ -1,11 +1,13 @@
 -- The manual's run. Document 01, "The manual's run in demand 3", "Words taken" and "Replies"; meanings from the manual.
--- It uses no definition of the translator or the host: it is fed a turn's limit, halfwords and output length, and what a helper left.
+-- It uses no definition of the translator or the host: it is fed a turn's code, how far that was fetched, the limit and the output's
+-- length, and what a helper left.
 use mathlib.Core.Bool.{Bool, true, false, cond, _||_}
 use mathlib.Core.List.{List, [], _∷_, _++_}
 use mathlib.Core.Option.{Option, none, some}
 use Prim.Native.Nat.{ℕ, zero, suc, _+_, _*_, _/_, _%_, min}
 use lib.Dec.{ltb, eqb}
 use Rattle.agreement.specs.Common.{greatest, mostSteps, Helper, Helper.forHalfword, Helper.forAccess}
+use Rattle.agreement.specs.Riscv.Code.{Code, runAt}
 use Rattle.agreement.specs.Riscv.Fields.{rd, rs1, rs2, shamt6, shamt5, plus}
 use Rattle.agreement.specs.Riscv.Immediates.{immI, immB, immJ, immU}
 use Rattle.agreement.specs.Riscv.Instruction.{Instruction, Row, row, findIn, listing, valueOp, valueOpImm, branches}
@@ -93,9 +95,11 @@ does (opImm o) pc w x rest =
     oneMore (rest (writeX x (rd w) (valueOpImm o (x (rs1 w)) (immI w) (shamt6 w) (shamt5 w))))
 does LUI pc w x rest = oneMore (rest (writeX x (rd w) (immU w)))
 does AUIPC pc w x rest = oneMore (rest (writeX x (rd w) (plus pc (immU w))))
--- document 01: both fences count and do nothing
+-- document 01: a fence counts and does nothing
 does FENCE pc w x rest = oneMore (rest x)
-does FENCE·I pc w x rest = oneMore (rest x)
+-- "a subsequent instruction fetch on a RISC-V hart will see any previous data stores already visible to the same RISC-V hart" (Zifencei).
+-- So the turn ends here (document 02, Q-1): the words behind it are the next turn's, read from the code as it is then
+does FENCE·I pc w x rest = jump x (plus pc 4)
 does (branch c) pc w x rest = jump x (cond (branches c (x (rs1 w)) (x (rs2 w))) (plus pc (immB w)) (plus pc 4))
 does JAL pc w x rest = jump (writeX x (rd w) (plus pc 4)) (plus pc (immJ w))
 -- "then setting the least-significant bit of the result to zero"
@@ -134,10 +138,12 @@ pub record Left : Type 0 where
   pub slots : Registers
   pub rax : ℕ
 
--- what a turn feeds: its code, its output's length and, after a helper, what that left
+-- what a turn feeds: the code as it is at that turn, how many halfwords of it were fetched, the output's length and, after a helper,
+-- what that left
 pub record Feed : Type 0 where
   pub limit : ℕ
-  pub halfwords : List ℕ
+  pub code : Code
+  pub reach : ℕ
   pub room : ℕ
   pub left : Option Left
 
@@ -146,8 +152,12 @@ pub record GuestState : Type 0 where
   pub pc : ℕ
   pub count : ℕ
 
+-- the halfwords that a turn reads
+abbrev pub runOf : Feed → GuestState → List ℕ
+runOf f s = runAt (f .code) (s .pc) (f .reach)
+
 abbrev pub readTurn : Feed → GuestState → Read
-readTurn f s = reading (min (f .limit) mostSteps) (s .pc) (f .halfwords) (s .registers)
+readTurn f s = reading (min (f .limit) mostSteps) (s .pc) (runOf f s) (s .registers)
 
 -- after a helper ending the run goes on from what the helper left (the agreement shows that it is then fed)
 unfoldable pub resume : Option Left → GuestState → GuestState
@@ -159,7 +169,7 @@ settle f s r plain = record { registers = r .registers; pc = r .pc; count = s .c
 settle f s r (called h i) = resume (f .left) s
 
 unfoldable pub turn : Feed → GuestState → GuestState
-turn f s = elim (refused (f .limit) (s .pc) (f .halfwords) (f .room)) [
+turn f s = elim (refused (f .limit) (s .pc) (runOf f s) (f .room)) [
   | true ↦ s
   | false ↦ settle f s (readTurn f s) (readTurn f s .stop)
 ]

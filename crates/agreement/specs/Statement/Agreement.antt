@@ -10,20 +10,22 @@ use Rattle.agreement.specs.Common.{Helper, Helper.forHalfword, Helper.fo
 use Rattle.agreement.specs.X86.Memory.{at, read}
 use Rattle.agreement.specs.X86.Form.{RAX, RCX, RDX, RBX, RSP, RBP, RSI, RDI, R8, R12, R13, R14, R15}
 use Rattle.agreement.specs.X86.Step.{all}
+use Rattle.agreement.specs.Riscv.Code.{runAt}
 use Rattle.agreement.specs.Riscv.Run.{Stop.plain, Stop.called, Read, refused, Left, Feed, GuestState, readTurn, turn, manual}
 use Rattle.agreement.specs.Translation.Walk.{instrs}
 use Rattle.agreement.specs.Translation.Replies.{walked}
 use Rattle.agreement.specs.Statement.Machine.{RegisterBytes, Turn, Call, Visit, Event, Event.rejected, Event.visited, History, since}
 use Rattle.agreement.specs.Statement.Premises.{Premises}
 
--- 1. What a turn feeds to the manual's run: its code and, after a helper, the slots and RAX that the helper left
+-- 1. What a turn feeds to the manual's run: the code as it is then and, after a helper, the slots and RAX that the helper left.
+-- `made`, which the machine translates, is not fed
 
 unfoldable pub leftBy : Turn → Option Call → Option Left
 leftBy t none = none
 leftBy t (some c) = some (record { slots = λ r. read 8 (c .back .mem) (t .base + 8 * r); rax = c .back .regs RAX })
 
 unfoldable pub feedOf : Turn → Option Call → Feed
-feedOf t c = record { limit = t .limit; halfwords = t .halfwords; room = length (t .output); left = leftBy t c }
+feedOf t c = record { limit = t .limit; code = t .code; reach = t .reach; room = length (t .output); left = leftBy t c }
 
 unfoldable pub feed : Turn → Event → Feed
 feed t (rejected pc r) = feedOf t none
@@ -41,7 +43,7 @@ start pc rb = record { registers = λ r. read 8 rb (8 * r); pc = pc; count = 0 }
 -- 2. What holds of each turn, from the manual's state m when the turn begins
 
 abbrev pub isRefused : Turn → GuestState → Bool
-isRefused t m = refused (t .limit) (m .pc) (t .halfwords) (length (t .output))
+isRefused t m = refused (t .limit) (m .pc) (runAt (t .code) (m .pc) (t .reach)) (length (t .output))
 
 -- the addresses that a block may write: slots x1 to x31, and 56 bytes of stack, 48 for the six registers that it saves below
 -- the entry stack pointer and 8 for the return address of its call. The 8 bytes between these, which make the stack
@@ -76,7 +78,7 @@ pub record Returns (t : Turn) (m : GuestState) (pc : ℕ) (v : Visit) : Type 0 w
   pub r13 : v .exit .regs R13 ≡ v .entry .regs R13
   pub r14 : v .exit .regs R14 ≡ v .entry .regs R14
   pub r15 : v .exit .regs R15 ≡ v .entry .regs R15
-  pub steps : v .steps ≡ length (instrs (t .helper16) (t .helperMem) (walked (m .pc) (t .limit) (t .halfwords)))
+  pub steps : v .steps ≡ length (instrs (t .helper16) (t .helperMem) (walked (m .pc) (t .limit) (t .made)))
   pub log : all (own t) (v .log) ≡ true
 
 -- an entry without a helper; n: the translation's count; q: the turn as the manual's run reads it

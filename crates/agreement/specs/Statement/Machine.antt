@@ -5,6 +5,7 @@ use mathlib.Core.List.{List, [], _∷_, _++_}
 use mathlib.Core.Option.{Option, none, some}
 use Prim.Native.Nat.{ℕ, suc, _+_}
 use lib.ListN.{length}
+use Rattle.agreement.specs.Riscv.Code.{Code}
 use Rattle.agreement.specs.X86.Memory.{Memory, overlay, nth}
 use Rattle.agreement.specs.X86.Form.{RAX, RDX, RSP, RDI, Instr, Instr.callRax, Instr.ret}
 use Rattle.agreement.specs.X86.State.{Flags, State, Permissions, set}
@@ -20,8 +21,11 @@ RegisterBytes = ℕ → ℕ
 -- a turn: what is translated, and how its block is entered if there is one
 pub record Turn : Type 0 where
   pub limit : ℕ
-  -- the guest's code from the pc on, as it is at entry
-  pub halfwords : List ℕ
+  -- the run of halfwords that is translated: at this turn, or at any earlier time, since a translation depends on nothing else
+  pub made : List ℕ
+  -- the guest's code as it is at this turn, and how many halfwords of it were fetched: nothing here reads these two
+  pub code : Code
+  pub reach : ℕ
   -- the pair of helpers, and the lent output
   pub helper16 : ℕ
   pub helperMem : ℕ
@@ -98,7 +102,7 @@ pub data Event : Type 0 where
   visited : ℕ → ℕ → Visit → Event
 
 abbrev pub reply : Turn → ℕ → Reply
-reply t pc = translate pc (t .limit) (t .halfwords) (t .helper16) (t .helperMem) (length (t .output))
+reply t pc = translate pc (t .limit) (t .made) (t .helper16) (t .helperMem) (length (t .output))
 
 -- the register bytes that a visit leaves
 abbrev pub bytesAfter : Turn → Visit → RegisterBytes

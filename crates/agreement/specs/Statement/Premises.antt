@@ -9,6 +9,7 @@ use mathlib.Core.List.{List, [], _∷_}
 use mathlib.Core.Logic.{_≢_}
 use Prim.Native.Nat.{ℕ, _+_, _-_, _%_, _^_, _≤_, _<_}
 use lib.ListN.{length}
+use Rattle.agreement.specs.Riscv.Code.{runAt}
 use Rattle.agreement.specs.X86.Memory.{at, read}
 use Rattle.agreement.specs.X86.Form.{RAX, RDX, RBX, RSP, RBP, R12, R13, R14, R15, Instr.callRax}
 use Rattle.agreement.specs.X86.State.{State}
@@ -61,10 +62,15 @@ Halfwords [] = Unit
 Halfwords (h ∷ hs) = (h < 65536) × Halfwords hs
 
 pub record Typed (t : Turn) : Type 0 where
-  pub halfwords : Halfwords (t .halfwords)
+  pub made : Halfwords (t .made)
   pub helper16 : t .helper16 < 2 ^ 64
   pub helperMem : t .helperMem < 2 ^ 64
   pub others : (k : ℕ) → k < 16 → t .others k < 2 ^ 64
+
+-- demand 3's "code unchanged since translation": the run that the block was made from, whenever that was, is the run that the code
+-- has now. This is all that is asked of the code: it may change from turn to turn, and in each turn everywhere but in this run
+abbrev pub Unchanged : Turn → ℕ → Type 0
+Unchanged t pc = t .made ≡ runAt (t .code) pc (t .reach)
 
 -- the block b is entered with the register bytes rb; its CALL, if it comes to one, enters the helper in a
 pub record Enterable (t : Turn) (b : Block) (rb : RegisterBytes) : Type 0 where
@@ -77,5 +83,6 @@ unfoldable pub Premises : ℕ → RegisterBytes → List Turn → Type 0
 Premises pc rb [] = Unit
 Premises pc rb (t ∷ ts) =
     Typed t
+    × Unchanged t pc
     × ((b : Block) → reply t pc ≡ block b → Enterable t b rb)
     × ((e : Event) (pc′ : ℕ) (rb′ : RegisterBytes) → Turned pc rb t e pc′ rb′ → Premises pc′ rb′ ts)

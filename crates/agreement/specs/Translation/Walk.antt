@@ -38,6 +38,10 @@ jumps is = record { code = is; added = 1; end = jumped }
 abbrev pub before : List Instr → Walked → Walked
 before is p = record { code = is ++ p .code; added = suc (p .added); end = p .end }
 
+-- a word behind which the block ends at pc: RAX is left to the end, as where the limit is reached
+abbrev pub stopsBehind : List Instr → ℕ → Walked
+stopsBehind is pc = record { code = is; added = 1; end = goesOn pc }
+
 -- a word that is not taken leaves its loads, counts nothing, and ends the block; RAX gets its pc
 abbrev pub notTakenAt : ℕ → ℕ → Walked
 notTakenAt pc w = record { code = leftover (opcode w) (rs1 w) (rs2 w); added = 0; end = goesOn pc }
@@ -49,7 +53,8 @@ emit (opImm o) pc w p = before (codeOpImm o (rd w) (rs1 w) (imm32 w) (shamt w) (
 emit LUI pc w p = before (codeConst (rd w) (immU w)) p
 emit AUIPC pc w p = before (codeConst (rd w) (wrappingAdd pc (immU w))) p
 emit FENCE pc w p = before [] p
-emit FENCE·I pc w p = before [] p
+-- document 02, Q-1; in the Rust the block goes on
+emit FENCE·I pc w p = stopsBehind [] (wrappingAdd pc 4)
 emit (branch c) pc w p = jumps (codeBranch c (rs1 w) (rs2 w) (wrappingAdd pc 4) (wrappingAdd pc (immB w)))
 emit JAL pc w p = jumps (codeJal (rd w) (wrappingAdd pc 4) (wrappingAdd pc (immJ w)))
 emit JALR pc w p = jumps (codeJalr (rd w) (rs1 w) (imm32 w) (wrappingAdd pc 4))
