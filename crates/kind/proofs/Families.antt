@@ -16,7 +16,7 @@ use Rattle.agreement.proofs.Laws.Fields.{funct6-in-funct7}
 use Rattle.agreement.proofs.Laws.Matches.{kind-is}
 use Rattle.decode.specs.Decoded.{decoded}
 use Rattle.decode.specs.declared.Decoded32.{Decoded32}
-use Rattle.kind.specs.Family.{Family, classOf, entry}
+use Rattle.kind.specs.Family.{Family, classOf, common, kindAt, entry}
 use Rattle.kind.proofs.Classes.{sample, by-class, class-small}
 use Rattle.kind.proofs.Tested.{below, at}
 
@@ -27,7 +27,7 @@ right o n c f = eqb (entry n c f) (kindNumber (kindOf o f (sample c) (sample c /
 abbrev pub tested : ℕ → ℕ → Bool
 tested o n = below 5 (λ (c : ℕ). below 8 (right o n c))
 
-pub by-test : (o n : ℕ) → 0 < n / 2 ^ 40 → T (tested o n) → Family o n
+pub by-test : (o n : ℕ) → 0 < common n → T (tested o n) → Family o n
 by-test o n some t = record {
   says = λ f s h.
       let c : ℕ = classOf s in
@@ -40,8 +40,8 @@ by-test o n some t = record {
 none-taken : (c f : ℕ) → entry 0 c f ≡ 0
 none-taken c f = go (eqb (0 / 2 ^ (8 * c + f) % 2) 1)
   where
-    go : (b : Bool) → cond b (0 / 2 ^ 40) 0 ≡ 0
-    go true = refl
+    go : (b : Bool) → cond b (kindAt 0 f) 0 ≡ 0
+    go true = rw (zero-div (2 ^ (42 + f))) refl
     go false = refl
 
 -- an opcode that `kindOf` has no arm for
@@ -77,10 +77,10 @@ number-small other = omega arith
 
 -- a word whose bit is set, and one whose bit is not
 pub taken : {d : Decoded32} {n c : ℕ} (w : ℕ) → d ≡ decoded w → Bit d n c ≡ 1 → Family (d .opcode) n → c ≡ classOf (d .funct7)
-    → (n / 2 ^ 40 ≡ kindNumber (kind w)) × (0 < n / 2 ^ 40) × (n / 2 ^ 40 < 4)
-taken {d} {n} {c} w e h family class = (is, family .some not, rw is (number-small (kind w)))
+    → (kindAt n (d .funct3) ≡ kindNumber (kind w)) × (0 < kindAt n (d .funct3)) × (kindAt n (d .funct3) < 4)
+taken {d} {n} {c} w e h family class = (is, omega (arith, family .some not), rw is (number-small (kind w)))
   where
-    is : n / 2 ^ 40 ≡ kindNumber (kind w)
+    is : kindAt n (d .funct3) ≡ kindNumber (kind w)
     is = rw h at (entry-is w e family class)
 
     not : n ≢ 0

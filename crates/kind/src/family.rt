@@ -1,5 +1,5 @@
-// The words of one opcode, as a number: for each class of funct7 eight bits that say which funct3 are taken, the lowest for funct3 0, and
-// above these five what becomes of the words that are taken.
+// The words of one opcode, as a number: for each class of funct7 eight bits that say which funct3 are taken, the lowest for funct3 0; above
+// these five the kind of the words that are taken, two bits; and above it eight bits that say which funct3 have the next kind.
 use decode::isa;
 ghost use mathlib.Core.Path.{_≡_};
 ghost use Prim.Native.Nat.{_≤_};
@@ -24,6 +24,9 @@ const ENDING: u64 = 2 * STRAIGHT;
 
 const MEMORY_HELPER: u64 = 3 * STRAIGHT;
 
+// Which funct3 end the block in a family of straight words.
+const ENDS: u64 = 4 * STRAIGHT;
+
 // LUI and AUIPC; below, JAL and JALR
 const CONSTANT: u64 = STRAIGHT + 0xFF * ANY;
 
@@ -47,7 +50,8 @@ const OP: u64 = STRAIGHT + 0xFF * BASE + 0x01 * MULDIV + 0x21 * SUB_SRA;
 
 const OP_32: u64 = STRAIGHT + 0x23 * BASE + 0x01 * MULDIV + 0x21 * SUB_SRA;
 
-const FENCE: u64 = STRAIGHT + 0x03 * ANY;
+// FENCE, funct3 0, goes on; FENCE.I, funct3 1, ends the block.
+const FENCE: u64 = STRAIGHT + 0x03 * ANY + 0x02 * ENDS;
 
 const LOAD: u64 = MEMORY_HELPER + 0x7F * ANY;
 

@@ -1,5 +1,6 @@
 // What becomes of a word: document 01, "Words taken". The Rust decides it in the matches of `emit_native_instr_x64` and
-// `emit_native_term_mem_helper_x64`; a caller that fetches a run halfword by halfword asks for the answer alone.
+// `emit_native_term_mem_helper_x64`; a caller that fetches a run halfword by halfword asks for the answer alone. Unlike the Rust,
+// FENCE.I ends the block (document 02, Q-1).
 mod family;
 
 ghost use mathlib.Core.Path.{_≡_};
@@ -36,7 +37,8 @@ pub fn word_kind(instr: u32) -> WordKind
     let family = family::family(d.opcode);
     let place = 8 * family::class(d.funct7) + d.funct3;
     if (family >> place) % 2 == 1 {
-        by_number(family >> 40)
+        let ends = (family >> (42 + d.funct3)) % 2;
+        by_number((family >> 40) % 4 + ends)
     } else {
         WordKind::NotTaken
     }

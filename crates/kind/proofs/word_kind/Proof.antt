@@ -18,10 +18,18 @@ shr-if1 c =
     let classing : tie.After-class = search in
     rw (decoding .decode32 .ensures) (omega (arith, classing .class .ensures .1))
 
+-- and that of its funct3 below 50
+add-ends : tie.Need-add-ends
+add-ends c = let decoding : tie.After-decode32 = search in rw (decoding .decode32 .ensures) (omega arith)
+
+shr-ends : tie.Need-shr-ends
+shr-ends c = let decoding : tie.After-decode32 = search in rw (decoding .decode32 .ensures) (omega arith)
+
 by-number-requires : tie.Need-by-number-requires
 by-number-requires c κs =
     let decoding : tie.After-decode32 = search in
-    let is = taken _ (decoding .decode32 .ensures) (c .if1 .taken) (search) (search) in
+    let testing : tie.Then1 = search in
+    let is = taken _ (decoding .decode32 .ensures) (testing .if1 .taken) (search) (search) in
     (is .1, is .2)
 
 returns : tie.Need-returns
@@ -46,6 +54,10 @@ word-kind-spec =
     add-place
     (λ c. search needs)
     shr-if1
+    add-ends
+    (λ c. search needs)
+    shr-ends
+    (λ c. search needs)
     by-number-requires
     returns
     returns-2)
