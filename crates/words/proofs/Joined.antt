@@ -71,33 +71,33 @@ finish {m′ = m′} {m″ = m″} {w = w} {e = e} {r = r} is rd p q s = record 
         subst (λ (f : X64EmitFlow). Wrote m′ (e .em .at) (bytes (storeIf rd f)) m″ (r .em .at)) (q .flows) (s .wrote)
 
 -- a property of each of a family's words, and of the word that is not emitted
-each-family : (P : Word → Type 0) {f : Op → Word} {g : OpImm → Word} {h : Branch → Word} {e : Word}
-    → ((o : Op) → P (f o)) → ((o : OpImm) → P (g o)) → ((c : Branch) → P (h c)) → P e → P (notEmitted [])
-    → (k : Instruction) → P (byFamily f g h e k)
-each-family P f g h e n (op o) = f o
-each-family P f g h e n (opImm o) = g o
-each-family P f g h e n (branch c) = h c
-each-family P f g h e n FENCE = e
-each-family P f g h e n FENCE·I = e
-each-family P f g h e n (access a) = n
-each-family P f g h e n (unmodelled u) = n
-each-family P f g h e n LUI = n
-each-family P f g h e n AUIPC = n
-each-family P f g h e n JAL = n
-each-family P f g h e n JALR = n
-each-family P f g h e n other = n
+each-family : (P : Word → Type 0) {f : Op → Word} {g : OpImm → Word} {h : Branch → Word} {a b : Word}
+    → ((o : Op) → P (f o)) → ((o : OpImm) → P (g o)) → ((c : Branch) → P (h c)) → P a → P b → P (notEmitted [])
+    → (k : Instruction) → P (byFamily f g h a b k)
+each-family P f g h a b n (op o) = f o
+each-family P f g h a b n (opImm o) = g o
+each-family P f g h a b n (branch c) = h c
+each-family P f g h a b n FENCE = a
+each-family P f g h a b n FENCE·I = b
+each-family P f g h a b n (access _) = n
+each-family P f g h a b n (unmodelled u) = n
+each-family P f g h a b n LUI = n
+each-family P f g h a b n AUIPC = n
+each-family P f g h a b n JAL = n
+each-family P f g h a b n JALR = n
+each-family P f g h a b n other = n
 
 -- the bodies are short
 abbrev Short : ℕ → Word → Type 0
 Short n w = length (bytes (w .code)) ≤ n
 
 pub op-short : (k : Instruction) → Short 13 (opBody k)
-op-short k = each-family (Short 13) len-body-op (λ o. omega arith) (λ c. omega arith) (omega arith) (omega arith) k
+op-short k = each-family (Short 13) len-body-op (λ o. omega arith) (λ c. omega arith) (omega arith) (omega arith) (omega arith) k
 
 pub imm-short : (k : Instruction) (d : Decoded32) (i : ℕ) → Short 20 (opImmBody k d i)
 imm-short k d i =
     each-family (Short 20) (λ o. omega arith) (λ o. len-body-imm o i (d .imm12 % 64) (d .imm12 % 32)) (λ c. omega arith)
-    (omega arith) (omega arith) k
+    (omega arith) (omega arith) (omega arith) k
 
 -- the room that is left for the store, behind loads and a body
 pub store-room : {l m m′ : List ℕ} {a b : ℕ} {xs : List ℕ} {w : Word} {e : Emitted}

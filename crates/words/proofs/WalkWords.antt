@@ -7,19 +7,21 @@ use Rattle.agreement.specs.Riscv.Instruction.{Instruction}
 use Rattle.agreement.specs.Riscv.Instruction.Instruction.{op, opImm, branch, access, unmodelled, LUI, AUIPC, JAL, JALR, FENCE, FENCE·I}
 use Rattle.agreement.specs.Riscv.Instruction.Instruction.{other}
 use Rattle.agreement.specs.X86.Form.{Instr}
-use Rattle.agreement.specs.Translation.Walk.{Walked, End, emit, before, jumps}
+use Rattle.agreement.specs.Translation.Decode32.{wrappingAdd}
+use Rattle.agreement.specs.Translation.Walk.{Walked, End, emit, before, jumps, stopsBehind}
 use Rattle.words.specs.Word.{wordAs, endAt}
-use Rattle.words.specs.declared.X64EmitFlow.the-variants.{Continue, Terminate, NotEmitted}
+use Rattle.words.specs.declared.X64EmitFlow.the-variants.{Continue, Terminate, StopBehind, NotEmitted}
 use Rattle.words.specs.declared.X64EmitFlow.{X64EmitFlow}
 
--- the walk from a word on: its flow and instructions, the end if it is not emitted, the walk over what follows
-abbrev pub byFlow : X64EmitFlow → List Instr → End → Walked → Walked
-byFlow Continue is e p = before is p
-byFlow Terminate is e p = jumps is
-byFlow NotEmitted is e p = record { code = is; added = 0; end = e }
+-- the walk from a word on: its flow and instructions, the pc behind it, the end if it is not emitted, the walk over what follows
+abbrev pub byFlow : X64EmitFlow → List Instr → ℕ → End → Walked → Walked
+byFlow Continue is next e p = before is p
+byFlow Terminate is next e p = jumps is
+byFlow StopBehind is next e p = stopsBehind is next
+byFlow NotEmitted is next e p = record { code = is; added = 0; end = e }
 
 pub walks-on : (k : Instruction) (pc w : ℕ) (p : Walked)
-    → emit k pc w p ≡ byFlow (wordAs k pc w .flow) (wordAs k pc w .code) (endAt k pc w) p
+    → emit k pc w p ≡ byFlow (wordAs k pc w .flow) (wordAs k pc w .code) (wrappingAdd pc 4) (endAt k pc w) p
 unfolding emit
 walks-on (op o) pc w p = refl
 walks-on (opImm o) pc w p = refl

@@ -23,7 +23,7 @@ use Rattle.decode.specs.declared.Decoded32.{Decoded32}
 use Rattle.emitter.specs.declared.X64Emitter.{X64Emitter}
 use Rattle.emitter.specs.Written.{Wrote}
 use Rattle.words.specs.declared.X64EmitFlow.{X64EmitFlow}
-use Rattle.words.specs.declared.X64EmitFlow.the-variants.{Continue, Terminate, NotEmitted}
+use Rattle.words.specs.declared.X64EmitFlow.the-variants.{Continue, Terminate, StopBehind, NotEmitted}
 use Rattle.words.specs.declared.Emitted.{Emitted}
 
 -- 1. A word: how the block goes on behind it, and its host instructions
@@ -37,6 +37,9 @@ goesOn is = record { flow = Continue; code = is }
 
 abbrev pub ends : List Instr → Word
 ends is = record { flow = Terminate; code = is }
+
+abbrev pub stopsBehind : List Instr → Word
+stopsBehind is = record { flow = StopBehind; code = is }
 
 abbrev pub notEmitted : List Instr → Word
 notEmitted is = record { flow = NotEmitted; code = is }
@@ -60,7 +63,7 @@ wordAs (opImm o) pc w = goesOn (codeOpImm o (rd w) (rs1 w) (imm32 w) (shamt w) (
 wordAs LUI pc w = goesOn (codeConst (rd w) (immU w))
 wordAs AUIPC pc w = goesOn (codeConst (rd w) (wrappingAdd pc (immU w)))
 wordAs FENCE pc w = goesOn []
-wordAs FENCE·I pc w = goesOn []
+wordAs FENCE·I pc w = stopsBehind []
 wordAs (branch c) pc w = ends (codeBranch c (rs1 w) (rs2 w) (wrappingAdd pc 4) (wrappingAdd pc (immB w)))
 wordAs JAL pc w = ends (codeJal (rd w) (wrappingAdd pc 4) (wrappingAdd pc (immJ w)))
 wordAs JALR pc w = ends (codeJalr (rd w) (rs1 w) (imm32 w) (wrappingAdd pc 4))
@@ -85,6 +88,7 @@ loadPair r s = loadReg R10 r ∷ loadReg R11 s ∷ []
 abbrev pub storeIf : ℕ → X64EmitFlow → List Instr
 storeIf r Continue = storeReg r R10
 storeIf r Terminate = []
+storeIf r StopBehind = []
 storeIf r NotEmitted = []
 
 -- the store behind a body that answers f; the word answers the same
@@ -120,34 +124,36 @@ pub record Small (d : Decoded32) : Type 0 where
   pub rs2-small : d .rs2 < 32
   pub imm12-small : d .imm12 < 4096
 
--- what a family of words has, by the instruction that its match gives: OP, OP-IMM, BRANCH, MISC-MEM; all else is not emitted
-abbrev pub byFamily : (Op → Word) → (OpImm → Word) → (Branch → Word) → Word → Instruction → Word
-byFamily f g h e (op o) = f o
-byFamily f g h e (opImm o) = g o
-byFamily f g h e (branch c) = h c
-byFamily f g h e FENCE = e
-byFamily f g h e FENCE·I = e
-byFamily f g h e (access a) = notEmitted []
-byFamily f g h e (unmodelled u) = notEmitted []
-byFamily f g h e LUI = notEmitted []
-byFamily f g h e AUIPC = notEmitted []
-byFamily f g h e JAL = notEmitted []
-byFamily f g h e JALR = notEmitted []
-byFamily f g h e other = notEmitted []
+-- what a family of words has, by the instruction that its match gives: OP, OP-IMM, BRANCH; FENCE and FENCE.I, the two of MISC-MEM; all
+-- else is not emitted
+abbrev pub byFamily : (Op → Word) → (OpImm → Word) → (Branch → Word) → Word → Word → Instruction → Word
+byFamily f g h a b (op o) = f o
+byFamily f g h a b (opImm o) = g o
+byFamily f g h a b (branch c) = h c
+byFamily f g h a b FENCE = a
+byFamily f g h a b FENCE·I = b
+byFamily f g h a b (access _) = notEmitted []
+byFamily f g h a b (unmodelled u) = notEmitted []
+byFamily f g h a b LUI = notEmitted []
+byFamily f g h a b AUIPC = notEmitted []
+byFamily f g h a b JAL = notEmitted []
+byFamily f g h a b JALR = notEmitted []
+byFamily f g h a b other = notEmitted []
 
 -- the part of OP and OP-32 that works on R10 and R11
 abbrev pub opBody : Instruction → Word
-opBody k = byFamily (λ o. goesOn (bodyOp o)) (λ _. notEmitted []) (λ _. notEmitted []) (notEmitted []) k
+opBody k = byFamily (λ o. goesOn (bodyOp o)) (λ _. notEmitted []) (λ _. notEmitted []) (notEmitted []) (notEmitted []) k
 
 -- the part of OP-IMM and OP-IMM-32 that works on R10; i: the immediate's 32 bits
 abbrev pub opImmBody : Instruction → Decoded32 → ℕ → Word
 opImmBody k d i =
-    byFamily (λ _. notEmitted []) (λ o. goesOn (bodyOpImm o i (d .imm12 % 64) (d .imm12 % 32))) (λ _. notEmitted []) (notEmitted []) k
+    byFamily (λ _. notEmitted []) (λ o. goesOn (bodyOpImm o i (d .imm12 % 64) (d .imm12 % 32))) (λ _. notEmitted [])
+    (notEmitted []) (notEmitted []) k
 
 -- the part of BRANCH behind the comparison
 abbrev pub branchBody : Instruction → ℕ → ℕ → Word
 branchBody k next target =
-    byFamily (λ _. notEmitted []) (λ _. notEmitted []) (λ c. ends (select (ccFor c) next target)) (notEmitted []) k
+    byFamily (λ _. notEmitted []) (λ _. notEmitted []) (λ c. ends (select (ccFor c) next target)) (notEmitted []) (notEmitted []) k
 
 abbrev pub opWord : Instruction → Decoded32 → Word
 opWord k d = finished (loadPair (d .rs1) (d .rs2)) (opBody k) (d .rd)
@@ -160,7 +166,7 @@ branchWord k d next target = behind (compare (d .rs1) (d .rs2)) (branchBody k ne
 
 -- MISC-MEM
 abbrev pub fenceWord : Instruction → Word
-fenceWord k = byFamily (λ _. notEmitted []) (λ _. notEmitted []) (λ _. notEmitted []) (goesOn []) k
+fenceWord k = byFamily (λ _. notEmitted []) (λ _. notEmitted []) (λ _. notEmitted []) (goesOn []) (stopsBehind []) k
 
 -- the word w at pc: the match on the opcode, in the order of the code
 abbrev pub wordBy : ℕ → ℕ → Decoded32 → Word

@@ -19,12 +19,15 @@ ghost use Prim.Native.Nat.{_%_, _^_};
 ghost use Rattle.agreement.specs.Riscv.Immediates.{immI};
 ghost use Rattle.agreement.specs.Translation.Kind.{kind, kindFence};
 ghost use Rattle.emitter.specs.Written.{Room};
-ghost use Rattle.words.specs.declared.X64EmitFlow.the-variants.{Continue, Terminate, NotEmitted};
+ghost use Rattle.words.specs.declared.X64EmitFlow.the-variants.{Continue, Terminate, StopBehind, NotEmitted};
 ghost use Rattle.words.specs.Word.{Answers, Emits, wordAs, fenceWord, Small, wordBy};
 
+// `Terminate`: the word is the block's last, and has set RAX. `StopBehind`, which the Rust does not have: the word is the block's last;
+// the block goes on at the word behind, and its end sets RAX.
 pub enum X64EmitFlow {
     Continue,
     Terminate,
+    StopBehind,
     NotEmitted,
 }
 
@@ -44,12 +47,22 @@ fn goes_on(em: X64Emitter) -> Emitted
     }
 }
 
-// The word is written, and ends the block.
+// The word is written, ends the block, and has set RAX.
 fn ends(em: X64Emitter) -> Emitted
     ensures { λ r. ⌜ Answers Terminate em r ⌝ }
 {
     Emitted {
         flow: X64EmitFlow::Terminate,
+        em,
+    }
+}
+
+// The word is written, and ends the block; RAX is left to the block's end.
+fn stops_behind(em: X64Emitter) -> Emitted
+    ensures { λ r. ⌜ Answers StopBehind em r ⌝ }
+{
+    Emitted {
+        flow: X64EmitFlow::StopBehind,
         em,
     }
 }
@@ -71,13 +84,14 @@ fn imm32(instr: u32) -> u32
     (decode::imm_i(instr) % 0x1_0000_0000) as u32
 }
 
-// MISC-MEM: FENCE and FENCE.I do nothing.
+// MISC-MEM: the fences have no code of their own. Behind FENCE.I the guest's code may be another than before it, so the block ends
+// (document 02, Q-1); in the Rust it goes on.
 fn fence_word(em: X64Emitter, out: &mut [u8], funct3: u8) -> Emitted
     ensures { λ r. ⌜ Emits (now (out .entry)) (em .at) (fenceWord (kindFence funct3)) (now (out .exit)) r ⌝ }
 {
     match funct3 {
         isa::F3_FENCE => goes_on(em),
-        isa::F3_FENCE_I => goes_on(em),
+        isa::F3_FENCE_I => stops_behind(em),
         _ => not_emitted(em),
     }
 }

@@ -40,6 +40,7 @@ pub fn store_rd(e: Emitted, out: &mut [u8], rd: u8) -> Emitted
             goes_on(crate::slots::x64_emit_store_reg(em, out, rd, X64Emitter::R10))
         }
         X64EmitFlow::Terminate => e,
+        X64EmitFlow::StopBehind => e,
         X64EmitFlow::NotEmitted => e,
     }
 }

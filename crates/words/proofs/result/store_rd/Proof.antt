@@ -22,6 +22,8 @@ store-rd-spec =
     (λ c. search needs)
     (λ c. search needs)
     (λ c. search needs)
+    (λ c. search needs)
     goes-on
     (λ c. rw (c .enum-told2 .given .1) (record { flows = refl; wrote = none }))
-    (λ c. rw (c .enum-told3 .given .1) (record { flows = refl; wrote = none })))
+    (λ c. rw (c .enum-told3 .given .1) (record { flows = refl; wrote = none }))
+    (λ c. rw (c .enum-told4 .given .1) (record { flows = refl; wrote = none })))
