@@ -9,19 +9,17 @@ use Rattle.agreement.specs.Common.{Helper.forHalfword}
 use Rattle.agreement.specs.Translation.Decode32.{wrappingAdd}
 use Rattle.agreement.specs.Translation.Kind.{kind}
 use Rattle.agreement.specs.Translation.Walk.{walk, End.goesOn, End.jumped, End.calls}
-use Rattle.agreement.specs.Translation.Walk as Translation
-use Rattle.emitter.proofs.WriteLaws.{none}
 use Rattle.emitter.specs.declared.X64Emitter.{X64Emitter}
 use Rattle.words.specs.Word.{Emits, wordAs, endAt}
 use Rattle.words.specs.declared.Emitted.{Emitted}
-use Rattle.words.specs.declared.X64EmitFlow.the-variants.{Continue, Terminate, NotEmitted}
+use Rattle.words.specs.declared.X64EmitFlow.the-variants.{Continue, Terminate, StopBehind, NotEmitted}
 use Rattle.block.specs.Fetch.{fetched}
-use Rattle.block.specs.Walks.{Walks, endAs}
+use Rattle.block.specs.Walks.{Walks}
 use Rattle.block.specs.declared.walk.Walked.{Walked}
 use Rattle.block.specs.declared.fetch.Fetched.the-variants.{Missing, Half, Word}
 use Rattle.block.proofs.WalkStep.{at-none, at-missing, at-half, at-word, behind}
 use Rattle.block.proofs.StraightLength.{straight-short}
-use Rattle.block.proofs.WalkWritten.{named, going, stopping}
+use Rattle.block.proofs.WalkWritten.{Left, named, going, stopping, stopping-here}
 
 -- n words of the run hs are written; l₀ and a₀ were the output and the place before the first, l and a are those behind the last.
 -- Whatever completes the walk from there completes the whole.
@@ -32,10 +30,6 @@ pub record Walking (steps start : ℕ) (hs l₀ : List ℕ) (a₀ : ℕ) (l : Li
   pub size : length l ≡ length l₀
   pub rest : (l′ : List ℕ) (r : Walked)
       → Walks l a n (walk (steps - n) pc (drop k hs)) l′ r → Walks l₀ a₀ 0 (walk steps start hs) l′ r
-
--- a result as `stopped` and `not_emitted` give it
-abbrev pub Left : X64Emitter → ℕ → Translation.End → Walked → Type 0
-Left em n e r = (r .em ≡ em) × (r .emitted ≡ n) × (endAs (r .end) ≡ e)
 
 pub begins : (steps start : ℕ) (hs l : List ℕ) (a : ℕ) → a + (34 * steps + 35) ≤ length l → Walking steps start hs l a l a start 0 0
 begins steps start hs l a h = record {
@@ -51,20 +45,17 @@ module _ {steps start : ℕ} {hs l₀ : List ℕ} {a₀ : ℕ} {l : List ℕ} {p
   pub used-up : {em : X64Emitter} {r : Walked} → Walking steps start hs l₀ a₀ l (em .at) pc k n → steps ≤ n → Left em n (goesOn pc) r
       → Walks l₀ a₀ 0 (walk steps start hs) l r
   used-up {r = r} w h e =
-      w .rest l r (named (at-none (steps - n) pc (drop k hs) (omega (arith, h)))
-      (record { ends = e .2; counts = omega (arith, e .1); wrote = rw (e .0) none }))
+      w .rest l r (named (at-none (steps - n) pc (drop k hs) (omega (arith, h))) (stopping-here e))
 
   pub lacking : {em : X64Emitter} {r : Walked} {i : ℕ} → Walking steps start hs l₀ a₀ l (em .at) pc k n → n < steps
       → Missing i ≡ fetched (drop k hs) → Left em n (goesOn pc) r → Walks l₀ a₀ 0 (walk steps start hs) l r
   lacking {r = r} w h f e =
-      w .rest l r (named (at-missing (steps - n) pc (drop k hs) (λ z. omega (arith, h, z)) f)
-      (record { ends = e .2; counts = omega (arith, e .1); wrote = rw (e .0) none }))
+      w .rest l r (named (at-missing (steps - n) pc (drop k hs) (λ z. omega (arith, h, z)) f) (stopping-here e))
 
   pub halved : {em : X64Emitter} {r : Walked} {i : ℕ} → Walking steps start hs l₀ a₀ l (em .at) pc k n → n < steps
       → Half i ≡ fetched (drop k hs) → Left em n (calls forHalfword i pc) r → Walks l₀ a₀ 0 (walk steps start hs) l r
   halved {r = r} w h f e =
-      w .rest l r (named (at-half (steps - n) pc (drop k hs) (λ z. omega (arith, h, z)) f)
-      (record { ends = e .2; counts = omega (arith, e .1); wrote = rw (e .0) none }))
+      w .rest l r (named (at-half (steps - n) pc (drop k hs) (λ z. omega (arith, h, z)) f) (stopping-here e))
 
   -- a word is written
   module _ {a : ℕ} {m : List ℕ} {e : Emitted} (i : ℕ) (w : Walking steps start hs l₀ a₀ l a pc k n) (h : n < steps)
@@ -94,6 +85,11 @@ module _ {steps start : ℕ} {hs l₀ : List ℕ} {a₀ : ℕ} {l : List ℕ} {p
     ended {r = r} t q =
         w .rest m r (named (at-word (steps - n) pc (drop k hs) left f (sym (E .flows) ∙ t))
         (record { ends = q .2; counts = q .1; wrote = rw (q .0) (E .wrote) }))
+
+    pub stopped-behind : {r : Walked} → e .flow ≡ StopBehind → Left (e .em) (n + 1) (goesOn (wrappingAdd pc 4)) r
+        → Walks l₀ a₀ 0 (walk steps start hs) m r
+    stopped-behind {r = r} t q =
+        w .rest m r (named (at-word (steps - n) pc (drop k hs) left f (sym (E .flows) ∙ t)) (going E (stopping-here q)))
 
     pub turned-down : {r : Walked} → e .flow ≡ NotEmitted → Left (e .em) n (endAt (kind i) pc i) r
         → Walks l₀ a₀ 0 (walk steps start hs) m r

@@ -69,11 +69,11 @@ at-half n pc hs h e = some-left n pc hs h e
 
 pub at-word : (n pc : ℕ) (hs : List ℕ) {w : ℕ} {f : X64EmitFlow} → n ≢ 0 → Word w ≡ fetched hs → wordAs (kind w) pc w .flow ≡ f
     → walk n pc hs
-    ≡ byFlow f (wordAs (kind w) pc w .code) (endAt (kind w) pc w) (walk (n - 1) (wrappingAdd pc 4) (drop 2 hs))
+    ≡ byFlow f (wordAs (kind w) pc w .code) (wrappingAdd pc 4) (endAt (kind w) pc w) (walk (n - 1) (wrappingAdd pc 4) (drop 2 hs))
 at-word n pc hs {w} h e t =
     let p : Walked = walk (n - 1) (wrappingAdd pc 4) (drop 2 hs) in
     some-left n pc hs h e ∙ walks-on (kind w) pc w p
-    ∙ ap (λ (g : X64EmitFlow). byFlow g (wordAs (kind w) pc w .code) (endAt (kind w) pc w) p) t
+    ∙ ap (λ (g : X64EmitFlow). byFlow g (wordAs (kind w) pc w .code) (wrappingAdd pc 4) (endAt (kind w) pc w) p) t
 
 -- the run behind a word, from the start of the run and from the word
 pub behind : (n pc next k : ℕ) (hs : List ℕ) → next ≡ wrappingAdd pc 4

@@ -1,6 +1,6 @@
 -- A walk that was written, word by word; the block around it.
 use mathlib.Core.Path.{_≡_, refl, sym, _∙_, subst}
-use mathlib.Core.List.{List, _++_}
+use mathlib.Core.List.{List, [], _++_}
 use Prim.Native.Nat.{ℕ, _+_, _≤_}
 use native.Mathlib.Nat.{zero-add}
 use native.Mathlib.Omega.{arith}
@@ -13,6 +13,7 @@ use Rattle.agreement.proofs.Laws.Length.{sized}
 use Rattle.agreement.proofs.Laws.Length as Length
 use Rattle.emitter.specs.Written.{Wrote, Room}
 use Rattle.emitter.specs.declared.X64Emitter.{X64Emitter}
+use Rattle.emitter.proofs.WriteLaws.{none}
 use Rattle.agreement.specs.Translation.Walk as Translation
 use Rattle.words.specs.Word.{Word, Emits}
 use Rattle.words.specs.declared.Emitted.{Emitted}
@@ -34,11 +35,19 @@ going {w = w} {p = p} h k = record {
   wrote = joined (w .code) (p .code) (h .wrote) (k .wrote);
 }
 
+-- a result as `stopped` and `not_emitted` give it
+abbrev pub Left : X64Emitter → ℕ → Translation.End → Walked → Type 0
+Left em n e r = (r .em ≡ em) × (r .emitted ≡ n) × (endAs (r .end) ≡ e)
+
 -- a word that is not emitted ends the walk
 pub stopping : {l m : List ℕ} {a n : ℕ} {w : Word} {e : Emitted} {q : Translation.End} {r : Walked}
-    → Emits l a w m e → (r .em ≡ e .em) × (r .emitted ≡ n) × (endAs (r .end) ≡ q)
-    → Walks l a n (record { code = w .code; added = 0; end = q }) m r
+    → Emits l a w m e → Left (e .em) n q r → Walks l a n (record { code = w .code; added = 0; end = q }) m r
 stopping h k = record { ends = k .2; counts = omega (arith, k .1); wrote = rw (k .0) (h .wrote) }
+
+-- the walk ends, with nothing more written
+pub stopping-here : {l : List ℕ} {n : ℕ} {em : X64Emitter} {q : Translation.End} {r : Walked}
+    → Left em n q r → Walks l (em .at) n (record { code = []; added = 0; end = q }) l r
+stopping-here k = record { ends = k .2; counts = omega (arith, k .1); wrote = rw (k .0) none }
 
 -- the greatest length of an end
 most-is : (e : Translation.End) → Length.most e ≡ most e

@@ -1,4 +1,4 @@
--- Demand 3, of the code: lists of turns in which each turn is a call of `translate` and an entry of what that call left.
+-- Demand 3, of the code: lists of turns in which each turn is a call of `translate`, then or earlier, and an entry of what that call left.
 -- `Turned` and `History` of crate agreement (Statement/Machine) take a turn's reply from the definition; here it is read off an
 -- answer and an output that the contract of `translate` allows, and nothing else is known of them.
 use mathlib.Core.Path.{_≡_}
@@ -16,7 +16,7 @@ use Rattle.block.specs.declared.Answer.{Answer}
 
 -- the turn's call at pc answers r and leaves the output after
 abbrev pub Calls : ℕ → Turn → List ℕ → Answer → Type 0
-Calls pc t after r = Translates pc (t .limit) (t .halfwords) (t .helper16) (t .helperMem) (t .output) after r
+Calls pc t after r = Translates pc (t .limit) (t .made) (t .helper16) (t .helperMem) (t .output) after r
 
 -- one turn of the code
 pub data Ran (pc : ℕ) (rb : RegisterBytes) (t : Turn) : Event → ℕ → RegisterBytes → Type 0 where

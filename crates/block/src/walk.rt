@@ -5,9 +5,10 @@ use emitter::X64Emitter;
 use kind::WordKind;
 use words::X64EmitFlow;
 ghost use mathlib.Core.Path.{_≡_};
-ghost use Prim.Native.Nat.{_+_, _*_, _≤_};
+ghost use Prim.Native.Nat.{_+_, _*_, _≤_, _<_};
 ghost use Rattle.agreement.specs.Common.{mostSteps};
-ghost use Rattle.agreement.specs.Translation.Walk.{walk};
+ghost use Rattle.agreement.specs.Translation.Decode32.{wrappingAdd};
+ghost use Rattle.agreement.specs.Translation.Walk.{walk, goesOn};
 ghost use Rattle.agreement.specs.Translation.Kind.{kind};
 ghost use Rattle.emitter.specs.Written.{Room};
 ghost use Rattle.kind.specs.Numbered.{numberOf};
@@ -26,6 +27,15 @@ fn stopped(em: X64Emitter, emitted: u32, end: End) -> Walked
     ensures { λ r. ⌜ (r .em ≡ em) × (r .emitted ≡ emitted) × (endAs (r .end) ≡ endAs end) ⌝ }
 {
     Walked { em, emitted, end }
+}
+
+// FENCE.I is the block's last word and has not set RAX: it counts, and the block's end sets RAX to the word behind it.
+fn stopped_behind(em: X64Emitter, pc: u64, emitted: u32) -> Walked
+    requires { ⌜ emitted < mostSteps ⌝ }
+    ensures { λ r. ⌜ (r .em ≡ em) × (r .emitted ≡ emitted + 1) × (endAs (r .end) ≡ goesOn (wrappingAdd pc 4)) ⌝ }
+{
+    let next_pc = std::num::wrapping_add_u64(pc, 4);
+    stopped(em, emitted + 1, End::GoesOn(next_pc))
 }
 
 // At a load or store the memory helper ends the block; at any other word that is not emitted, the block goes on.
@@ -80,6 +90,7 @@ pub fn emit_words(
                         emitted += 1;
                     }
                     X64EmitFlow::Terminate => return stopped(next, emitted + 1, End::Jumped),
+                    X64EmitFlow::StopBehind => return stopped_behind(next, pc, emitted),
                     X64EmitFlow::NotEmitted => return not_emitted(next, pc, emitted, instr),
                 }
             }

@@ -1,7 +1,8 @@
 -- Between two words `Walking` holds; the steps left fall.
 use mathlib.Core.Path.{sym, _∙_}
 use Prim.Native.Nat.{_-_}
-use Rattle.block.proofs.WalkLoop.{Walking, begins, used-up, lacking, halved, going-on, ended, turned-down}
+use Rattle.block.proofs.WalkLoop.{Walking, begins, used-up, lacking, halved, going-on, ended, stopped-behind}
+use Rattle.block.proofs.WalkLoop.{turned-down}
 use borrow.Author.Needs.{needs}
 use Rattle.block.proofs.walk.emit_words.Statement.{statement}
 use Rattle.block.proofs.walk.emit_words.Tie as tie
@@ -69,6 +70,14 @@ emit-words-spec =
     let emitting : Emitting = search in
     let done = ended _ (looping .loop .inv) (search) (emitting .emit-native-instr-x64 .ensures) (cc) in
     (done (search) (c .stopped3 .ensures), search needs))
+    (λ c. search needs)
+    (λ c κs. search needs)
+    (λ c. search needs)
+    (λ c.
+    let looping : Looping = search in
+    let emitting : Emitting = search in
+    let done = stopped-behind _ (looping .loop .inv) (search) (emitting .emit-native-instr-x64 .ensures) (cc) in
+    (done (search) (c .stopped-behind .ensures), search needs))
     (λ c. search needs)
     (λ c κs. search needs)
     (λ c. search needs)
