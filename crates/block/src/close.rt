@@ -8,7 +8,7 @@ ghost use Rattle.agreement.specs.Translation.Walk.{ending, goesOn, jumped};
 ghost use Rattle.emitter.specs.Written.{Wrote, Room};
 ghost use Rattle.block.specs.Walks.{endAs, most, Closes};
 
-// It goes on at a pc, an ending word has set RAX, or a helper is called with an instruction and its pc.
+// It goes on at a pc, which the end puts into RAX; or an ending word has set RAX; or a helper is called with an instruction and its pc.
 pub enum End {
     GoesOn(u64),
     Jumped,
