@@ -19,7 +19,7 @@ use Rattle.block.specs.declared.walk.Walked.{Walked}
 use Rattle.block.specs.declared.fetch.Fetched.the-variants.{Missing, Half, Word}
 use Rattle.block.proofs.WalkStep.{at-none, at-missing, at-half, at-word, behind}
 use Rattle.block.proofs.StraightLength.{straight-short}
-use Rattle.block.proofs.WalkWritten.{Left, named, going, stopping, stopping-here}
+use Rattle.block.proofs.WalkWritten.{Left, named, going, ending-word, stopping, stopping-here}
 
 -- n words of the run hs are written; l₀ and a₀ were the output and the place before the first, l and a are those behind the last.
 -- Whatever completes the walk from there completes the whole.
@@ -83,13 +83,12 @@ module _ {steps start : ℕ} {hs l₀ : List ℕ} {a₀ : ℕ} {l : List ℕ} {p
 
     pub ended : {r : Walked} → e .flow ≡ Terminate → Left (e .em) (n + 1) jumped r → Walks l₀ a₀ 0 (walk steps start hs) m r
     ended {r = r} t q =
-        w .rest m r (named (at-word (steps - n) pc (drop k hs) left f (sym (E .flows) ∙ t))
-        (record { ends = q .2; counts = q .1; wrote = rw (q .0) (E .wrote) }))
+        w .rest m r (named (at-word (steps - n) pc (drop k hs) left f (sym (E .flows) ∙ t)) (ending-word E q))
 
     pub stopped-behind : {r : Walked} → e .flow ≡ StopBehind → Left (e .em) (n + 1) (goesOn (wrappingAdd pc 4)) r
         → Walks l₀ a₀ 0 (walk steps start hs) m r
     stopped-behind {r = r} t q =
-        w .rest m r (named (at-word (steps - n) pc (drop k hs) left f (sym (E .flows) ∙ t)) (going E (stopping-here q)))
+        w .rest m r (named (at-word (steps - n) pc (drop k hs) left f (sym (E .flows) ∙ t)) (ending-word E q))
 
     pub turned-down : {r : Walked} → e .flow ≡ NotEmitted → Left (e .em) n (endAt (kind i) pc i) r
         → Walks l₀ a₀ 0 (walk steps start hs) m r
