@@ -38,6 +38,7 @@ pub fn cases() -> Vec<Case> {
     ];
     let bne = 0xFE20_9CE3; // BNE x1, x2, -8
     let ld = 0x0000_B083; // LD x1, 0(x1)
+    let fence_i = 0x0000_100F; // with nothing behind it, which the original would take into its block
     let mulh = 0x0220_91B3; // MULH x3, x1, x2
     let mut long = unit.repeat(4);
     long[63] = bne;
@@ -54,6 +55,11 @@ pub fn cases() -> Vec<Case> {
         case("16-word mix", &short, 16),
         case("a load alone, by a helper", &[ld], 1),
         case("8 words and a load", &[&unit[..8], &[ld]].concat(), 9),
+        case(
+            "15 words and FENCE.I",
+            &[&unit[..15], &[fence_i]].concat(),
+            16,
+        ),
         case("MULH first, refused", &[mulh], 0),
     ]
 }
@@ -63,7 +69,7 @@ pub fn varied(number: usize, words: usize, seed: u64) -> Vec<Vec<u16>> {
     let mut r = Random::new(seed);
     let mut run = || {
         let mut run: Vec<u32> = (1..words).map(|_| words::straight(&mut r)).collect();
-        run.push(words::ending(&mut r));
+        run.push(words::jump(&mut r));
         halves(&run)
     };
     (0..number).map(|_| run()).collect()

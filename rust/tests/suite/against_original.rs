@@ -1,5 +1,6 @@
-//! Random requests: replies and every byte of the output against the original Rust.
+//! Random requests: replies and every byte of the output against the original Rust, whose run is cut behind a FENCE.I (module `fence_i`).
 
+use crate::fence_i::{cut, words_to_fence_i};
 use crate::random::Random;
 use crate::requests::{self, Lent, Wanted};
 use crate::words;
@@ -29,13 +30,13 @@ impl Comparison {
         }
     }
 
-    /// Asks both and compares; gives the reply.
+    /// Asks both and compares; gives the reply. The original is asked for the run up to a FENCE.I.
     pub fn reply(&mut self, request: &Request, output: usize) -> Result<Size, Refusal> {
         let helpers = [request.helpers.halfword, request.helpers.memory];
         let answer = self.original.translate(
             request.start,
             request.limit,
-            request.halfwords,
+            cut(request.halfwords),
             helpers,
             &mut self.bytes,
         );
@@ -67,7 +68,7 @@ impl Comparison {
         reply
     }
 
-    /// What becomes of a word by the original's own matches.
+    /// What becomes of a word by the original's own matches, in which FENCE.I is straight.
     pub fn kind(&mut self, word: u32) -> u32 {
         self.original.kind(word, &mut self.bytes)
     }
@@ -83,6 +84,8 @@ struct Seen {
     greatest: u32,
     refusals: [u32; 6],
     missing: [u32; 2],
+    /// Blocks that a FENCE.I has ended: with less behind it than a word, and with more.
+    by_fence_i: [u32; 2],
 }
 
 impl Seen {
@@ -92,13 +95,19 @@ impl Seen {
             greatest: 0,
             refusals: [0; 6],
             missing: [0; 2],
+            by_fence_i: [0; 2],
         }
     }
 
-    fn add(&mut self, reply: Result<Size, Refusal>) {
+    fn add(&mut self, halfwords: &[u16], reply: Result<Size, Refusal>) {
         match reply {
             Ok(block) => {
                 self.counts[block.count as usize] += 1;
+                let count = block.count as usize;
+                if words_to_fence_i(halfwords) == Some(count) {
+                    let behind = halfwords.len() - 2 * count;
+                    self.by_fence_i[(behind > 1) as usize] += 1;
+                }
                 self.greatest += (block.length == GREATEST_BLOCK) as u32;
             }
             Err(refusal) => {
@@ -117,7 +126,8 @@ fn random_requests(seed: u64, number: u32) {
     let mut seen = Seen::new();
     for _ in 0..number {
         let wanted = requests::wanted(&mut r);
-        seen.add(comparison.wanted(&wanted));
+        let reply = comparison.wanted(&wanted);
+        seen.add(wanted.request().halfwords, reply);
     }
     assert!(seen.counts[1..].iter().all(|n| *n > 0), "{:?}", seen.counts);
     assert!(seen.greatest > 100);
@@ -127,6 +137,11 @@ fn random_requests(seed: u64, number: u32) {
         seen.refusals
     );
     assert!(seen.missing.iter().all(|n| *n > 100), "{:?}", seen.missing);
+    assert!(
+        seen.by_fence_i.iter().all(|n| *n > 20_000),
+        "{:?}",
+        seen.by_fence_i
+    );
 }
 
 #[test]
@@ -146,7 +161,7 @@ fn every_end_at_every_count() {
     let mut comparison = Comparison::new(3);
     let mut requests = 0;
     for n in 0..=65 {
-        for end in 0..6 {
+        for end in 0..7 {
             for limit in [n.max(1) - 1, n, n + 1, 64, 65] {
                 let mut run = Vec::new();
                 for _ in 0..n {
@@ -156,8 +171,13 @@ fn every_end_at_every_count() {
                     0 => run.extend(words::halves(words::ending(&mut r))),
                     1 => run.extend(words::halves(words::memory(&mut r))),
                     2 => run.push(words::halfword(&mut r)),
-                    3 => run.extend(words::halves(words::not_taken(&mut r))),
-                    4 => run.push(0x0093),
+                    // Straight words behind it, which are no more of the block.
+                    3 => {
+                        run.extend(words::halves(words::fence_i(&mut r)));
+                        run.extend(words::halves(words::straight(&mut r)));
+                    }
+                    4 => run.extend(words::halves(words::not_taken(&mut r))),
+                    5 => run.push(0x0093),
                     _ => {}
                 }
                 let wanted = Wanted {
@@ -170,7 +190,7 @@ fn every_end_at_every_count() {
                 };
                 let reply = comparison.wanted(&wanted);
                 // An end counts where a helper or a word takes it, and where the limit lets it be reached.
-                let taken = n + (end < 3) as u32;
+                let taken = n + (end < 4) as u32;
                 match reply {
                     Ok(block) => assert_eq!(block.count, taken.min(limit).min(64)),
                     Err(refusal) => {
@@ -181,7 +201,7 @@ fn every_end_at_every_count() {
             }
         }
     }
-    assert_eq!(requests, 66 * 6 * 5);
+    assert_eq!(requests, 66 * 7 * 5);
 }
 
 /// Every length of the output below the greatest block is refused, and none above it, whatever the block's length.

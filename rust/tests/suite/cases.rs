@@ -1,5 +1,6 @@
 //! Document 01's cases, one by one.
 
+use crate::words::halves;
 use emuko_x64_blocks::{
     place, translate, word_kind, Helpers, PlaceRefusal, Refusal, Request, WordKind, GREATEST_BLOCK,
     LEAST_BLOCK, MOST_STEPS,
@@ -88,6 +89,51 @@ fn fence_at_the_end_of_addresses() {
     let (bytes, count) = reply(0xFFFF_FFFF_FFFF_FFFC, 1, &[0x000F, 0x0000]).unwrap();
     assert_eq!((bytes.len(), count), (67, 1));
     assert_eq!(bytes[32..42], rax(0));
+}
+
+/// RAX, which the block's end sets: ten bytes before the ten that set RDX and the fifteen of the closing.
+fn rax_at_the_end(bytes: &[u8]) -> u64 {
+    let at = bytes.len() - 35;
+    assert_eq!(bytes[at..at + 2], [0x48, 0xB8]);
+    u64::from_le_bytes(bytes[at + 2..at + 10].try_into().unwrap())
+}
+
+/// Length, count and RAX of a block that goes on at an address.
+fn end(start: u64, words: &[u32]) -> (usize, u32, u64) {
+    let run: Vec<u16> = words.iter().flat_map(|word| halves(*word)).collect();
+    let (bytes, count) = reply(start, 64, &run).unwrap();
+    (bytes.len(), count, rax_at_the_end(&bytes))
+}
+
+/// Request Q-1: FENCE.I ends its block, which goes on at the next word; FENCE does not.
+#[test]
+fn fences() {
+    const FENCE: u32 = 0x0000_000F;
+    const FENCE_I: u32 = 0x0000_100F;
+    const ADDI: u32 = 0x0050_0093;
+    const SLLW: u32 = 0x01FF_1EBB; // SLLW x29, x30, x31
+    let start = START;
+    assert_eq!(end(start, &[FENCE_I, ADDI]), (67, 1, start + 4));
+    // rd = x1; all of rd, rs1 and imm set.
+    assert_eq!(end(start, &[0x0000_108F, ADDI]), (67, 1, start + 4));
+    assert_eq!(end(start, &[0xFFFF_9F8F, ADDI]), (67, 1, start + 4));
+    assert_eq!(end(start, &[FENCE, ADDI]), (88, 2, start + 8));
+    assert_eq!(end(start, &[ADDI, FENCE_I, ADDI]), (88, 2, start + 8));
+    // ADDI x0, x0, 0
+    assert_eq!(end(start, &[0x0000_0013, FENCE_I]), (81, 2, start + 8));
+    assert_eq!(end(0xFFFF_FFFF_FFFF_FFFC, &[FENCE_I]), (67, 1, 0));
+    let greatest = [&[SLLW; 63][..], &[FENCE_I]].concat();
+    assert_eq!(end(start, &greatest), (2209, 64, start + 256));
+    assert_eq!(end(start, &[FENCE; 64]), (67, 64, start + 256));
+    assert_eq!(end(start, &[FENCE_I; 64]), (67, 1, start + 4));
+    // As where the limit is reached: not a byte differs.
+    let by_limit = reply(start, 2, &[0x0093, 0x0050, 0x000F, 0x0000]);
+    let by_fence_i = reply(start, 64, &[0x0093, 0x0050, 0x100F, 0x0000, 0x0001]);
+    assert_eq!(by_fence_i, by_limit);
+    // Its upper halfword is missing; its funct3 is 2.
+    assert_eq!(refusal(&[0x100F]), Refusal::MissingHalfword(1));
+    assert_eq!(size(&[0x0093, 0x0050, 0x100F]), (88, 1));
+    assert_eq!(refusal(&[0x200F, 0x0000]), Refusal::NotTaken(0x0000_200F));
 }
 
 #[test]
@@ -285,4 +331,6 @@ fn kinds_of_words() {
         assert_eq!(word_kind(word), kind);
         assert_eq!(kind as usize, number);
     }
+    assert_eq!(word_kind(0x0000_000F), WordKind::Straight);
+    assert_eq!(word_kind(0x0000_100F), WordKind::Ending);
 }

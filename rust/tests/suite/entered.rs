@@ -1,14 +1,17 @@
 //! Blocks entered on this processor, in lists of turns: each block is translated at the pc that the last one left, over the register bytes
 //! that it left, and the run of the manual (module `manual`) says what has to come out.
 
+use crate::fence_i::is_fence_i;
 use crate::manual::{Run, Turn};
 use crate::random::Random;
 use crate::requests;
 use crate::words;
+use emuko_original::{Answer, Emuko, Original};
 use emuko_x64_blocks::{
     block_fn, translate, BlockResult, CodeStore, HelperFn, Helpers, Refusal, Request,
     GREATEST_BLOCK,
 };
+use std::collections::HashMap;
 use std::ffi::c_void;
 use std::mem::offset_of;
 use std::sync::{Mutex, MutexGuard};
@@ -422,6 +425,13 @@ struct Seen {
     instructions: u64,
     /// By funct3 of a branch that ended a block: not taken, taken.
     branches: [[u32; 2]; 8],
+    /// Blocks that a FENCE.I ended with a whole word behind it.
+    by_fence_i: u32,
+}
+
+/// Word k of a run.
+fn word_at(halfwords: &[u16], k: usize) -> u32 {
+    u32::from(halfwords[2 * k + 1]) << 16 | u32::from(halfwords[2 * k])
 }
 
 fn lists(seed: u64, number: u32) -> Seen {
@@ -474,6 +484,10 @@ fn lists(seed: u64, number: u32) -> Seen {
                         let funct3 = (halfwords[at] >> 12) as usize & 7;
                         seen.branches[funct3][(run.pc != next) as usize] += 1;
                     }
+                    let last = word_at(&halfwords, added as usize - 1);
+                    if is_fence_i(last) && halfwords.len() >= at + 4 {
+                        seen.by_fence_i += 1;
+                    }
                 }
                 (
                     Turn::Helper {
@@ -519,6 +533,7 @@ fn lists_of_turns() {
     assert!(seen.halfword_helpers > 10_000, "{seen:?}");
     assert!(seen.memory_helpers > 10_000, "{seen:?}");
     assert!(seen.instructions > 1_000_000, "{seen:?}");
+    assert!(seen.by_fence_i > 5_000, "{seen:?}");
     for funct3 in [0, 1, 4, 5, 6, 7] {
         let [not, taken] = seen.branches[funct3];
         assert!(not > 100 && taken > 100, "{seen:?}");
@@ -557,6 +572,208 @@ fn a_loop() {
     assert_eq!(pc, 0x8000_0014);
     assert_eq!(machine.slots()[1..4], [0, 5050, 0]);
     assert_eq!((count, entries), (2 + 3 * 100, 100));
+}
+
+/// The original's block goes on behind a FENCE.I. Where it ends, ours have come by several entries, with the same registers, pc and sum of
+/// counts.
+#[test]
+fn where_the_original_ends() {
+    let mut machine = Machine::new(34);
+    let mut original = Original::new(emuko_original::CODE_SIZE);
+    let mut bytes = Vec::new();
+    let mut r = Random::new(134);
+    let mut entries = 0;
+    for _ in 0..5_000 {
+        let mut run = Vec::new();
+        for _ in 0..1 + r.below(40) {
+            let word = match r.below(8) {
+                0 => words::fence_i(&mut r),
+                _ => words::straight(&mut r),
+            };
+            run.extend(words::halves(word));
+        }
+        if r.percent(70) {
+            run.extend(words::halves(words::jump(&mut r)));
+        }
+        let mut x = [0; 32];
+        for register in &mut x[1..] {
+            *register = value(&mut r);
+        }
+        let start = requests::start(&mut r) & !1;
+        let answer = original.translate(start, 64, &run, [0, 0], &mut bytes);
+        assert_eq!(answer, Answer::Block(run.len() as u32 / 2));
+        machine.slots().copy_from_slice(&x);
+        machine.out[..bytes.len()].copy_from_slice(&bytes);
+        let after = machine.after();
+        let theirs = machine.enter(bytes.len(), &after);
+        let expected = machine.slots().to_vec();
+
+        machine.slots().copy_from_slice(&x);
+        let (mut pc, mut sum) = (start, 0);
+        while sum < theirs.rdx {
+            assert_eq!(pc, start.wrapping_add(4 * sum));
+            let request = Request::new(pc, &run[2 * sum as usize..]);
+            let block = translate(&request, &mut machine.out).unwrap();
+            let length = block.bytes().len();
+            let ours = machine.enter(length, &after);
+            (pc, sum, entries) = (ours.rax, sum + ours.rdx, entries + 1);
+        }
+        assert_eq!((pc, sum), (theirs.rax, theirs.rdx), "{run:x?}");
+        assert_eq!(machine.slots(), expected, "{run:x?}");
+    }
+    assert!(entries > 10_000, "{entries}");
+}
+
+/// Where the guests of `self_modified_code` stand.
+const BASE: u64 = 0x8000_0000;
+
+/// A guest that may store to its own code.
+struct Guest {
+    x: [u64; 32],
+    code: [u16; 32],
+}
+
+impl Guest {
+    /// ECALL everywhere but where the program stands. x5 is its address, x6 the word that it stores, x7 how often a loop is to run.
+    fn new(program: &[u32], word: u32) -> Self {
+        let mut code = [0; 32];
+        for (k, halves) in code.chunks_exact_mut(2).enumerate() {
+            let word = program.get(k).copied().unwrap_or(0x0000_0073);
+            halves.copy_from_slice(&words::halves(word));
+        }
+        let mut x = [0; 32];
+        [x[5], x[6], x[7]] = [BASE, u64::from(word), 2];
+        Guest { x, code }
+    }
+
+    fn index(address: u64) -> usize {
+        (address - BASE) as usize / 2
+    }
+}
+
+/// The helper for SW, the one store of these guests, with an offset from 0 to 31; the hart is the guest.
+unsafe extern "C" fn store_word(
+    hart: *mut c_void,
+    _: *mut c_void,
+    _: *mut c_void,
+    instruction: u64,
+    pc: u64,
+) -> BlockResult {
+    let instruction = instruction as usize;
+    assert_eq!(instruction & 0xFE00_707F, 0x2023, "SW");
+    // SAFETY: `Keeping::enter` passes its guest, which nothing else uses meanwhile.
+    let guest = unsafe { &mut *hart.cast::<Guest>() };
+    let address = guest.x[instruction >> 15 & 31] + (instruction as u64 >> 7 & 31);
+    let at = Guest::index(address);
+    let word = guest.x[instruction >> 20 & 31] as u32;
+    guest.code[at..at + 2].copy_from_slice(&words::halves(word));
+    BlockResult {
+        next_pc: pc + 4,
+        executed: 1,
+    }
+}
+
+/// A block that is kept: its offset in the store, and whether a FENCE.I ends it.
+#[derive(Clone, Copy)]
+struct Kept {
+    offset: usize,
+    by_fence_i: bool,
+}
+
+/// What an emulator keeps: blocks by their pc.
+struct Keeping {
+    store: CodeStore<&'static mut [u8]>,
+    blocks: HashMap<u64, Kept>,
+}
+
+impl Keeping {
+    fn new() -> Self {
+        Keeping {
+            store: CodeStore::new(executable(1 << 16)),
+            blocks: HashMap::new(),
+        }
+    }
+
+    fn drop_all(&mut self) {
+        self.blocks.clear();
+        self.store.clear();
+    }
+
+    /// The block that is kept for the pc, or else one made from the code as it is now; none where the word there is not taken.
+    fn block(&mut self, guest: &Guest, pc: u64) -> Option<Kept> {
+        if let Some(kept) = self.blocks.get(&pc) {
+            return Some(*kept);
+        }
+        let mut run = emuko_x64_blocks::Run::new();
+        let fetch = |address| guest.code.get(Guest::index(address)).copied().ok_or(());
+        run.fetch(pc, 64, fetch).unwrap();
+        let mut out = [0; GREATEST_BLOCK];
+        let helpers = Helpers::new(store_word, store_word);
+        let block = translate(&Request::new(pc, &run).helpers(helpers), &mut out).ok()?;
+        let kept = Kept {
+            offset: self.store.place(block.bytes()).unwrap().offset,
+            by_fence_i: is_fence_i(word_at(&run, block.count() as usize - 1)),
+        };
+        self.blocks.insert(pc, kept);
+        Some(kept)
+    }
+
+    fn enter(&self, block: Kept, guest: &mut Guest) -> BlockResult {
+        let hart = &raw mut *guest;
+        let none = std::ptr::null_mut();
+        // SAFETY: The block stands in executable memory as it was translated; its helper takes the guest as the hart.
+        unsafe {
+            let enter = block_fn(self.store.bytes()[block.offset..].as_ptr());
+            let slots = (&raw mut (*hart).x).cast();
+            enter(slots, hart.cast(), none, none, none, none)
+        }
+    }
+}
+
+/// Runs a guest until a word is not taken, and gives its x1 and how many instructions were executed. Where `drops`, no block is kept behind
+/// a FENCE.I.
+fn run_keeping_blocks(mut guest: Guest, drops: bool) -> (u64, u64) {
+    let mut keeping = Keeping::new();
+    let (mut pc, mut executed) = (BASE, 0);
+    while let Some(block) = keeping.block(&guest, pc) {
+        let result = keeping.enter(block, &mut guest);
+        (pc, executed) = (result.next_pc, executed + result.executed);
+        if drops && block.by_fence_i {
+            keeping.drop_all();
+        }
+    }
+    (guest.x[1], executed)
+}
+
+/// Guests that store over code of theirs which has been executed: ADDI x1, x1, 5 becomes ADDI x1, x1, 7. Behind FENCE.I the new word is
+/// executed, where blocks kept from before are dropped there; kept on, the old one is executed twice.
+#[test]
+fn self_modified_code() {
+    // The word right behind FENCE.I, in a loop: a block that went on behind it would hold the old word.
+    let behind = [
+        0xFFF3_8393, // ADDI x7, x7, -1
+        0x0000_100F, // FENCE.I
+        0x0050_8093, // ADDI x1, x1, 5
+        0x0062_A423, // SW x6, 8(x5)
+        0xFE03_98E3, // BNE x7, x0, -16
+    ];
+    // A routine that is called before and behind FENCE.I.
+    let called = [
+        0x01C0_016F, // JAL x2, 28
+        0x0062_AE23, // SW x6, 28(x5)
+        0x0000_100F, // FENCE.I
+        0x0100_016F, // JAL x2, 16
+        0x0000_0073, // ECALL
+        0x0000_0073,
+        0x0000_0073,
+        0x0050_8093, // ADDI x1, x1, 5
+        0x0001_0067, // JALR x0, 0(x2)
+    ];
+    for (program, executed) in [(&behind[..], 10), (&called[..], 8)] {
+        let guest = || Guest::new(program, 0x0070_8093);
+        assert_eq!(run_keeping_blocks(guest(), true), (12, executed));
+        assert_eq!(run_keeping_blocks(guest(), false), (10, executed));
+    }
 }
 
 /// The check itself: a block that was changed in one place is noticed.

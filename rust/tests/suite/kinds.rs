@@ -2,6 +2,7 @@
 //! values of opcode, funct3 and funct7 are tried with each register field at its limits, and every compressed halfword.
 
 use crate::against_original::{Comparison, Size};
+use crate::fence_i::is_fence_i;
 use crate::random::Random;
 use crate::words;
 use emuko_x64_blocks::{word_kind, Helpers, Refusal, Request, WordKind, GREATEST_BLOCK};
@@ -12,10 +13,17 @@ const HELPERS: Helpers = Helpers {
     memory: 0x99AA_BBCC_DDEE_FF00,
 };
 
-/// The word's kind, as the original's matches have it; the translation of the word alone tells whether it is taken.
+/// The word's kind, as the original's matches have it, but for FENCE.I, which is straight there and ends its block here; the translation
+/// of the word alone tells whether it is taken.
 fn kind(comparison: &mut Comparison, start: u64, word: u32) -> WordKind {
     let kind = word_kind(word);
-    assert_eq!(kind as u32, comparison.kind(word), "{word:08x}");
+    let original = comparison.kind(word);
+    if is_fence_i(word) {
+        assert_eq!(original, WordKind::Straight as u32, "{word:08x}");
+        assert_eq!(kind, WordKind::Ending, "{word:08x}");
+    } else {
+        assert_eq!(kind as u32, original, "{word:08x}");
+    }
     let taken = taken(comparison, start, word);
     assert_eq!(taken, kind != WordKind::NotTaken, "{word:08x}");
     kind
@@ -81,11 +89,11 @@ fn words_by_field() {
         || by_field(opcodes().take(16), 20),
         || by_field(opcodes().skip(16), 21),
     );
-    // Pairs of funct3 and funct7, out of 1,024 for each opcode. Straight: LUI and AUIPC all; 2 funct3 of 8 of the fences, 6 of OP_IMM,
+    // Pairs of funct3 and funct7, out of 1,024 for each opcode. Straight: LUI and AUIPC all; 1 funct3 of 8 is FENCE, 6 of OP_IMM,
     // 1 of OP_IMM_32; the shifts of OP_IMM, whose six upper bits leave two funct7 each; 3 exact ones of OP_IMM_32; OP 11; OP_32 6.
-    let straight = 2 * 1024 + (2 + 6 + 1) * 128 + 3 * 2 + 3 + 11 + 6;
-    // JAL and JALR all, branches 6 funct3 of 8; loads 7, stores 4.
-    let ending = 2 * 1024 + 6 * 128;
+    let straight = 2 * 1024 + (1 + 6 + 1) * 128 + 3 * 2 + 3 + 11 + 6;
+    // JAL and JALR all, branches 6 funct3 of 8, FENCE.I 1; loads 7, stores 4.
+    let ending = 2 * 1024 + (6 + 1) * 128;
     let memory = (7 + 4) * 128;
     let not_taken = 32 * 1024 - straight - ending - memory;
     let pairs = [not_taken, straight, ending, memory];
@@ -107,8 +115,8 @@ fn every_word() {
     let count = in_two(|| part(0, 25), move || part(1 << 29, 26));
     // For each opcode there are 2^25 words, 2^22 for one funct3 and 2^15 for a funct7 besides; the shifts that have six upper bits
     // fixed are 2^16. The numbers are those of `words_by_field`.
-    let straight = (2 << 25) + ((2 + 6 + 1) << 22) + (3 << 16) + ((3 + 11 + 6) << 15);
-    let ending = (2 << 25) + (6 << 22);
+    let straight = (2 << 25) + ((1 + 6 + 1) << 22) + (3 << 16) + ((3 + 11 + 6) << 15);
+    let ending = (2 << 25) + ((6 + 1) << 22);
     let memory = (7 + 4) << 22;
     assert_eq!(count[1..], [straight, ending, memory]);
     assert_eq!(count.iter().sum::<u32>(), 1 << 30);
@@ -177,6 +185,7 @@ fn sorts_of_words() {
         };
         of_kind(words::straight(&mut r), WordKind::Straight);
         of_kind(words::ending(&mut r), WordKind::Ending);
+        of_kind(words::fence_i(&mut r), WordKind::Ending);
         of_kind(words::memory(&mut r), WordKind::MemoryHelper);
         of_kind(words::not_taken(&mut r), WordKind::NotTaken);
         let word = words::halfword(&mut r) as u32;

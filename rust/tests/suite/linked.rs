@@ -1,6 +1,9 @@
 //! emuko with `compile_native_block` over this crate, against the original emulator: replies, and everything else that can be seen
-//! behind a call.
+//! behind a call. FENCE.I ends its block in the linked one alone, so the original is given the run cut behind it or, where it fetches from
+//! memory, a limit by which it ends there too (module `fence_i`): what it then does is all compared. Left out is what the original does
+//! behind a FENCE.I in the same block, which the test `behind_fence_i` shows.
 
+use crate::fence_i::{cut, limit_to_fence_i, words_to_fence_i};
 use crate::random::Random;
 use crate::requests;
 use crate::words;
@@ -26,7 +29,7 @@ impl Both {
         }
     }
 
-    /// The answer that both give, and its bytes.
+    /// The answer that both give, the original to the run up to a FENCE.I, and its bytes.
     fn translate(
         &mut self,
         start: u64,
@@ -39,7 +42,7 @@ impl Both {
         linked.clear();
         let expected = self
             .original
-            .translate(start, limit, halfwords, helpers, original);
+            .translate(start, limit, cut(halfwords), helpers, original);
         let answer = self
             .linked
             .translate(start, limit, halfwords, helpers, linked);
@@ -48,11 +51,13 @@ impl Both {
         (answer, linked)
     }
 
-    /// Both compile from a memory of their own, which must be the same afterwards; what both have seen.
-    fn compile(&mut self, memory: &Memory, pc: u64, limit: u32) -> (Compiled, Memory) {
+    /// Both compile from a memory of their own, which must be the same afterwards; what both have seen. The code at pc is `run`, and
+    /// the original goes no further than its first FENCE.I.
+    fn compile(&mut self, memory: &Memory, run: &[u16], pc: u64, limit: u32) -> (Compiled, Memory) {
         let mut expected_memory = memory.clone();
         let mut after = memory.clone();
-        let expected = self.original.compile(&mut expected_memory, pc, limit);
+        let until = limit_to_fence_i(run, limit);
+        let expected = self.original.compile(&mut expected_memory, pc, until);
         let compiled = self.linked.compile(&mut after, pc, limit);
         assert_eq!(compiled, expected, "{pc:x} {limit}");
         assert_eq!(
@@ -130,7 +135,7 @@ fn corpus_reply(line: &str, both: &mut Both) -> String {
     }
 }
 
-/// The 3,400 requests that came with the original, which the program replay is run on too.
+/// The 3,400 requests that came with the original, and 104 more, which the program replay is run on too.
 #[test]
 fn corpus() {
     let replay = concat!(env!("CARGO_MANIFEST_DIR"), "/../crates/replay/");
@@ -138,11 +143,11 @@ fn corpus() {
     let replies = fs::read_to_string(format!("{replay}stdout")).unwrap();
     let mut both = Both::new(CODE_SIZE);
     let mut kinds = [0; 3];
-    for (request, reply) in requests.lines().zip(replies.lines()).take(3400) {
+    for (request, reply) in requests.lines().zip(replies.lines()).take(3504) {
         assert_eq!(corpus_reply(request, &mut both), reply, "{request}");
         kinds["TPD".find(&request[..1]).unwrap()] += 1;
     }
-    assert_eq!(kinds, [3172, 178, 50]);
+    assert_eq!(kinds, [3243, 201, 60]);
 }
 
 #[test]
@@ -249,6 +254,7 @@ fn fetches(memory: &Memory) -> Vec<u64> {
 fn ends() -> Vec<(Vec<u16>, usize)> {
     vec![
         (vec![0x006F, 0x0000], 2), // JAL x0, 0
+        (vec![0x100F, 0x0000], 2), // FENCE.I
         (vec![0xB083, 0x0000], 2), // LD x1, 0(x1)
         (vec![0x91B3, 0x0220], 2), // MULH x3, x1, x2
         (vec![0x0001], 1),         // C.NOP
@@ -259,7 +265,8 @@ fn ends() -> Vec<(Vec<u16>, usize)> {
 fn around_one_end(both: &mut Both, run: &[u16], needed: u64, before: u64, next: Next) {
     both.each(|emuko| emuko.satp(SATP));
     let offset = PAGE - 2 * before;
-    let (compiled, after) = both.compile(&paged(run, offset, next), CODE + offset, 64);
+    let memory = paged(run, offset, next);
+    let (compiled, after) = both.compile(&memory, run, CODE + offset, 64);
     let crosses = before < needed;
     let stops = crosses && !matches!(next, Next::Mapped | Next::Accessed);
     assert!(accessed(&after, 0));
@@ -296,7 +303,7 @@ fn around_the_end_of_a_page() {
             }
         }
     }
-    assert_eq!(cases, 5 * (3 * (5 + 7 + 9) + 4 + 6 + 8));
+    assert_eq!(cases, 5 * (4 * (5 + 7 + 9) + 4 + 6 + 8));
 }
 
 /// The trap of a fetch in the first instruction is the call's; a later one ends the block.
@@ -309,7 +316,7 @@ fn traps() {
             both.each(|emuko| emuko.satp(SATP));
             let memory = paged(&run, PAGE - 2 * before, next);
             let pc = CODE + PAGE - 2 * before;
-            let (compiled, _) = both.compile(&memory, pc, 64);
+            let (compiled, _) = both.compile(&memory, &run, pc, 64);
             let trap = match next {
                 Next::NoMemory => {
                     let addr = BASE + LENGTH as u64;
@@ -330,7 +337,7 @@ fn traps() {
         let mut memory = Memory::new(BASE, 64);
         let bytes: Vec<u8> = run.iter().flat_map(|half| half.to_le_bytes()).collect();
         memory.write(BASE + 64 - 2 * before, &bytes[..2 * before as usize]);
-        let (compiled, _) = both.compile(&memory, BASE + 64 - 2 * before, 64);
+        let (compiled, _) = both.compile(&memory, &run, BASE + 64 - 2 * before, 64);
         assert_eq!(compiled.result.is_err(), before < 2);
     }
 }
@@ -340,10 +347,12 @@ fn traps() {
 fn random_pages() {
     let mut r = Random::new(41);
     let mut both = Both::new(CODE_SIZE);
-    let (mut blocks, mut traps, mut crossing) = (0, 0, 0);
+    let (mut blocks, mut traps, mut crossing, mut by_fence_i) = (0, 0, 0, 0);
     for _ in 0..20_000 {
         let mut run = requests::run(&mut r);
         run.truncate(200);
+        // The memory behind a run is zeros, by which its last word can be whole.
+        run.resize(run.len().next_multiple_of(2), 0);
         let offset = PAGE - 2 * r.below(80);
         let next = r.one_of(&NEXT);
         let limit = requests::limit(&mut r);
@@ -354,9 +363,13 @@ fn random_pages() {
             pc += 1;
         }
         for _ in 0..1 + r.below(2) {
-            let (compiled, after) = both.compile(&memory, pc, limit);
+            let (compiled, after) = both.compile(&memory, &run, pc, limit);
             match compiled.result {
-                Ok(Some(_)) => blocks += 1,
+                Ok(Some((_, count))) => {
+                    blocks += 1;
+                    let ends = words_to_fence_i(&run) == Some(count as usize);
+                    by_fence_i += ends as u32;
+                }
                 Ok(None) => {}
                 Err(_) => traps += 1,
             }
@@ -366,9 +379,32 @@ fn random_pages() {
         }
     }
     assert!(
-        blocks > 10_000 && traps > 500 && crossing > 2_000,
-        "{blocks} {traps} {crossing}"
+        blocks > 10_000 && traps > 500 && crossing > 2_000 && by_fence_i > 1_000,
+        "{blocks} {traps} {crossing} {by_fence_i}"
     );
+}
+
+/// Where the two differ: FENCE.I is the last word of a page and ADDI the first of the next. The original fetches that, sets the next
+/// page's accessed bit and has both words in its block; the linked one ends behind FENCE.I and leaves the next page alone.
+#[test]
+fn behind_fence_i() {
+    let run = [0x100F, 0x0000, 0x0093, 0x0050, 0x0073, 0x0000];
+    let (offset, pc) = (PAGE - 4, CODE + PAGE - 4);
+    fn compiled<E: Emuko>(memory: &mut Memory, pc: u64) -> Compiled {
+        let mut emuko = E::new(CODE_SIZE);
+        emuko.set_satp(SATP);
+        emuko.compile(memory, pc, 64)
+    }
+    let mut memory = paged(&run, offset, Next::Mapped);
+    let original = compiled::<Original>(&mut memory, pc);
+    assert_eq!((original.result, original.used), (Ok(Some((0, 2))), 88));
+    assert_eq!(fetches(&memory).len(), 6);
+    assert!(accessed(&memory, 1));
+    let mut memory = paged(&run, offset, Next::Mapped);
+    let linked = compiled::<Linked>(&mut memory, pc);
+    assert_eq!((linked.result, linked.used), (Ok(Some((0, 1))), 67));
+    assert_eq!(fetches(&memory).len(), 2);
+    assert!(!accessed(&memory, 1));
 }
 
 /// Nothing is fetched, and the last access stays, where the limit is 0, the pc is odd or the translator is not enabled.
@@ -376,16 +412,16 @@ fn random_pages() {
 fn nothing_fetched() {
     let memory = Memory::new(BASE, 64);
     let mut both = Both::new(CODE_SIZE);
-    let (compiled, after) = both.compile(&memory, BASE, 0);
+    let (compiled, after) = both.compile(&memory, &[], BASE, 0);
     assert_eq!((compiled.result, fetches(&after)), (Ok(None), vec![]));
-    let (compiled, after) = both.compile(&memory, BASE + 1, 64);
+    let (compiled, after) = both.compile(&memory, &[], BASE + 1, 64);
     let trap = format!("MisalignedAccess {{ addr: {}, size: 2 }}", BASE + 1);
     assert_eq!((compiled.result, fetches(&after)), (Err(trap), vec![]));
-    let (compiled, _) = both.compile(&memory, BASE + 1, 0);
+    let (compiled, _) = both.compile(&memory, &[], BASE + 1, 0);
     assert_eq!(compiled.result, Ok(None));
     assert_eq!(compiled.last_access, "None");
     both.each(|emuko| emuko.enabled(false));
-    let (compiled, after) = both.compile(&memory, BASE, 64);
+    let (compiled, after) = both.compile(&memory, &[], BASE, 64);
     assert_eq!((compiled.result, fetches(&after)), (Ok(None), vec![]));
     assert!(!compiled.enabled);
 }
@@ -396,11 +432,12 @@ fn a_full_store() {
     let mut memory = Memory::new(BASE, 64);
     memory.write(BASE, &[0x93, 0x00, 0x50, 0x00, 0x73, 0x00, 0x00, 0x00]);
     let mut both = Both::new(200);
-    let (compiled, _) = both.compile(&memory, BASE, 64);
+    let run = [0x0093, 0x0050, 0x0073, 0x0000];
+    let (compiled, _) = both.compile(&memory, &run, BASE, 64);
     assert_eq!(compiled.result, Ok(Some((0, 1))));
-    let (compiled, _) = both.compile(&memory, BASE, 64);
+    let (compiled, _) = both.compile(&memory, &run, BASE, 64);
     assert_eq!((compiled.result, compiled.used), (Ok(Some((88, 1))), 176));
-    let (compiled, _) = both.compile(&memory, BASE, 64);
+    let (compiled, _) = both.compile(&memory, &run, BASE, 64);
     assert_eq!((compiled.result, compiled.enabled), (Ok(None), false));
     assert_eq!(compiled.found, Some((88, 1)));
 }
@@ -411,7 +448,8 @@ fn a_full_store() {
 #[test]
 #[ignore = "run by `traces`"]
 fn traced() {
-    fn trace<E: Emuko>() {
+    /// `seen` is as much of a run as the emulator is given.
+    fn trace<E: Emuko>(seen: fn(&[u16]) -> &[u16]) {
         let mut emuko = E::new(CODE_SIZE);
         emuko.set_trace(true);
         let mut r = Random::new(42);
@@ -419,14 +457,14 @@ fn traced() {
             let run = requests::run(&mut r);
             let start = requests::start(&mut r);
             let limit = requests::limit(&mut r);
-            emuko.translate(start, limit, &run, HELPERS, &mut Vec::new());
+            emuko.translate(start, limit, seen(&run), HELPERS, &mut Vec::new());
         }
         let run = words::halves(0x0000_0073);
         emuko.translate(BASE, 64, &run, HELPERS, &mut Vec::new());
     }
     match std::env::var("EMUKO_TRACED").as_deref() {
-        Ok("original") => trace::<Original>(),
-        Ok("linked") => trace::<Linked>(),
+        Ok("original") => trace::<Original>(cut),
+        Ok("linked") => trace::<Linked>(|run| run),
         _ => {}
     }
 }

@@ -6,6 +6,7 @@ mod against_original;
 mod cases;
 #[cfg(all(target_arch = "x86_64", target_os = "linux"))]
 mod entered;
+mod fence_i;
 mod in_c;
 mod kinds;
 mod linked;

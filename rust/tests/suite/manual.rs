@@ -223,9 +223,15 @@ impl Run {
                 self.pc = target;
                 return Step::Ends;
             }
-            Fence | FenceI => {
+            Fence => {
                 self.pc = next;
                 return Step::Next;
+            }
+            // "a subsequent instruction fetch on a RISC-V hart will see any previous data stores": what stands behind it is the next
+            // turn's, fetched then.
+            FenceI => {
+                self.pc = next;
+                return Step::Ends;
             }
             Lui => immediate_u(word),
             Auipc => self.pc.wrapping_add(immediate_u(word)),
@@ -367,4 +373,21 @@ fn by_hand() {
     // MUL, SUB
     assert_eq!(run(0x0220_81B3, minus(3), 5).0, minus(15));
     assert_eq!(run(0x4020_81B3, 3, 5).0, minus(2));
+}
+
+/// ADDI x3, x3, 1 behind a fence: FENCE goes on to it, FENCE.I ends its turn.
+#[test]
+fn fences_by_hand() {
+    let turn = |fence: u16| {
+        let mut run = Run {
+            x: [0; 32],
+            pc: 0x1000,
+            count: 0,
+        };
+        let turn = run.turn(64, &[fence, 0x0000, 0x8193, 0x0011], 2243);
+        (turn, run.x[3], run.pc, run.count)
+    };
+    assert_eq!(turn(0x000F), (Turn::Plain { added: 2 }, 1, 0x1008, 2));
+    assert_eq!(turn(0x100F), (Turn::Plain { added: 1 }, 0, 0x1004, 1));
+    assert_eq!(turn(0x108F), (Turn::Plain { added: 1 }, 0, 0x1004, 1));
 }

@@ -22,8 +22,17 @@ impl Wanted {
     }
 }
 
-/// A run of halfwords: straight words, then an end of any sort.
+/// A run of halfwords: straight words, then an end of any sort; some with a FENCE.I between the words.
 pub fn run(r: &mut Random) -> Vec<u16> {
+    let mut run = run_to_an_end(r);
+    if r.percent(15) {
+        let at = 2 * r.below(run.len() as u64 / 2 + 1) as usize;
+        run.splice(at..at, words::halves(words::fence_i(r)));
+    }
+    run
+}
+
+fn run_to_an_end(r: &mut Random) -> Vec<u16> {
     let mut run = Vec::new();
     match r.below(20) {
         0 => return (0..r.below(140)).map(|_| r.u32() as u16).collect(),

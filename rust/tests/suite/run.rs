@@ -1,5 +1,6 @@
 //! Runs fetched no further than a translation needs: they are translated as all that could have been fetched.
 
+use crate::fence_i::{cut, words_to_fence_i};
 use crate::random::Random;
 use crate::requests;
 use emuko_x64_blocks::{translate, Refusal, Request, Run, GREATEST_BLOCK};
@@ -21,7 +22,7 @@ fn translated_as_the_whole() {
     // One run for all: nothing of the last one may be left.
     let mut run = Run::new();
     let (mut out, mut expected_out) = ([0; GREATEST_BLOCK], [0; GREATEST_BLOCK]);
-    let (mut shorter, mut missing) = (0, 0);
+    let (mut shorter, mut missing, mut by_fence_i) = (0, 0, 0);
     for _ in 0..200_000 {
         let wanted = requests::wanted(&mut r);
         let request = wanted.request();
@@ -29,6 +30,12 @@ fn translated_as_the_whole() {
         let (asked, result) = fetched(&mut run, &request);
         // One after the other from the start on, each once.
         assert!(asked.iter().copied().eq(0..asked.len() as u64));
+        // None behind a FENCE.I.
+        if words_to_fence_i(request.halfwords).is_some() {
+            let until = cut(request.halfwords).len();
+            assert!(asked.len() <= until, "{request:x?}");
+            by_fence_i += (asked.len() == until && until < request.halfwords.len()) as u32;
+        }
         match result {
             Err(index) => {
                 let refusal = Refusal::MissingHalfword(index as u8);
@@ -47,7 +54,10 @@ fn translated_as_the_whole() {
             }
         }
     }
-    assert!(shorter > 50_000 && missing > 500, "{shorter} {missing}");
+    assert!(
+        shorter > 50_000 && missing > 500 && by_fence_i > 5_000,
+        "{shorter} {missing} {by_fence_i}"
+    );
 }
 
 /// The limit, and addresses that go on from 2^64 - 1 to 0.
@@ -73,6 +83,14 @@ fn ends_of_runs() {
     assert_eq!(length(u64::MAX - 5, 64, &fences), Ok(128));
     assert_eq!(length(0, 64, &[0x0001, 0x0001]), Ok(1));
     assert_eq!(length(0, 64, &[0x000F, 0x0000, 0x000F]), Ok(3));
+    // FENCE.I, whatever its other fields, and FENCE beside it.
+    assert_eq!(length(0, 64, &[0x100F, 0x0000, 0x0093, 0x0050]), Ok(2));
+    assert_eq!(length(0, 64, &[0x108F, 0x0000, 0x0093, 0x0050]), Ok(2));
+    assert_eq!(
+        length(0, 64, &[0x000F, 0x0000, 0x100F, 0x8000, 0x0001]),
+        Ok(4)
+    );
+    assert_eq!(length(0, 64, &[0x100F, 0x0000].repeat(70)), Ok(2));
     assert_eq!(length(0, 64, &[]), Err(()));
     assert_eq!(length(0, 64, &[0x000F]), Err(()));
 }

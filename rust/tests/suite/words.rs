@@ -25,7 +25,7 @@ const LOAD: u32 = 0x03;
 const STORE: u32 = 0x23;
 
 /// The words that are translated and do not end a block, by opcode and funct3; LUI and AUIPC stand first and have no funct3.
-const STRAIGHT: [(u32, u32, Top); 34] = [
+const STRAIGHT: [(u32, u32, Top); 33] = [
     (0x37, 0, Any),
     (0x17, 0, Any),
     (OP_IMM, 0, Any),
@@ -59,7 +59,6 @@ const STRAIGHT: [(u32, u32, Top); 34] = [
     (OP_32, 5, Seven(0x20)),
     (OP_32, 0, Seven(1)),
     (MISC_MEM, 0, Any),
-    (MISC_MEM, 1, Any),
 ];
 
 /// Opcodes of which no word is translated: SYSTEM, AMO, floating point, those kept for other uses, and those of longer instructions.
@@ -127,8 +126,22 @@ pub fn straight(r: &mut Random) -> u32 {
     }
 }
 
+/// FENCE.I, whatever its other fields.
+pub fn fence_i(r: &mut Random) -> u32 {
+    word(r, MISC_MEM, 1, Any)
+}
+
 /// A word that is translated and ends the block.
 pub fn ending(r: &mut Random) -> u32 {
+    if r.percent(20) {
+        fence_i(r)
+    } else {
+        jump(r)
+    }
+}
+
+/// A jump or branch.
+pub fn jump(r: &mut Random) -> u32 {
     match r.below(4) {
         0 => upper_word(r, 0x6F),
         1 => {
