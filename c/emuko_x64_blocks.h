@@ -28,7 +28,7 @@ typedef struct {
 enum {
     EMUKO_NOT_TAKEN = 0,    /* a block ends before it */
     EMUKO_STRAIGHT = 1,     /* the block goes on behind it */
-    EMUKO_ENDING = 2,       /* a jump or branch: it ends its block */
+    EMUKO_ENDING = 2,       /* a jump, a branch or FENCE.I: it ends its block */
     EMUKO_MEMORY_HELPER = 3 /* a load or store: the memory helper executes it and ends the block */
 };
 
@@ -62,7 +62,11 @@ typedef struct {
 } emuko_result;
 
 /* A block, in memory that may be executed. `regs` are the 32 guest registers, the first of them 0; the next three arguments go on to a
- * helper, and the last two are not used. */
+ * helper, and the last two are not used.
+ *
+ * It does what the guest's code says as long as the halfwords that it was made from are those that stand in the guest's code at its entry,
+ * which nothing here tests. Behind FENCE.I, which ends its block, the guest may count on its stores to code being seen: whoever keeps
+ * blocks drops each when a store reaches its halfwords, or drops all of them behind every FENCE.I, and translates anew. */
 typedef emuko_result (*emuko_block)(uint64_t *regs, void *hart, void *bus_data, void *bus_vtable, void *sbi_data, void *sbi_vtable);
 
 /* A helper executes the guest instruction that stands at pc. Its address, as a number, is helper16 (for a compressed halfword) or

@@ -25,6 +25,9 @@
 /* ADDI x1, x0, 5; ADD x2, x1, x1; LD x3, 0(x1); what stands behind it is not needed. */
 static const uint16_t code[] = {0x0093, 0x0050, 0x8133, 0x0010, 0xB183, 0x0000, 0x0093};
 
+/* FENCE.I, which ends its block; ADDI x1, x0, 5. */
+static const uint16_t fence_i[] = {0x100F, 0x0000, 0x0093, 0x0050};
+
 /* How many of the halfwords a translation needs. */
 static size_t needed(const uint16_t *halfwords, size_t length, uint32_t limit) {
     size_t k = 0;
@@ -57,11 +60,17 @@ int main(void) {
     CHECK(emuko_word_kind(0x022091B3) == EMUKO_NOT_TAKEN);
     CHECK(emuko_word_kind(0x00500093) == EMUKO_STRAIGHT);
     CHECK(emuko_word_kind(0x0000006F) == EMUKO_ENDING);
+    CHECK(emuko_word_kind(0x0000000F) == EMUKO_STRAIGHT);
+    CHECK(emuko_word_kind(0x0000100F) == EMUKO_ENDING);
     CHECK(emuko_word_kind(0x0000B183) == EMUKO_MEMORY_HELPER);
     size_t length = needed(code, sizeof code / sizeof code[0], 64);
     CHECK(length == 6);
 
     static uint8_t out[EMUKO_GREATEST_BLOCK];
+    CHECK(needed(fence_i, sizeof fence_i / sizeof fence_i[0], 64) == 2);
+    emuko_reply fenced = emuko_translate(START, 64, fence_i, sizeof fence_i / sizeof fence_i[0], 0, 0, out, sizeof out);
+    CHECK(fenced.number == 0 && fenced.first == 67 && fenced.second == 1);
+
     uint64_t helper = address(load);
     emuko_reply reply = emuko_translate(START, 64, code, length, 0, helper, out, sizeof out);
     CHECK(reply.number == 0 && reply.second == 3);

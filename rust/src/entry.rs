@@ -88,6 +88,9 @@ impl Helpers {
 /// # Ok::<(), Box<dyn std::error::Error>>(())
 /// ```
 ///
+/// What the block does is what the guest's code says only while the halfwords that it was made from are still that code
+/// (["Code that changes"](crate#code-that-changes)); a block whose code has changed does what the old code said.
+///
 /// # Safety
 ///
 /// At `code` a whole block must stand, as it was translated, in memory that may be executed, for as long as the function is called.

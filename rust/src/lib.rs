@@ -18,6 +18,34 @@
 //! Where fetching has effects of its own, as under page tables, [`Run::fetch`] fetches just what a translation needs. [`CodeStore`]
 //! keeps blocks one behind the other, and [`block_fn`] makes a function of one.
 //!
+//! # Code that changes
+//!
+//! A block does what the guest's code says as long as the halfwords that it was made from, no more than [`Run::fetch`] fetches, are those
+//! that stand in the guest's code when the block is entered. That is a premise of what is proved, and nothing here tests it: a block that is
+//! kept must not be entered any more once one of them has changed. Code elsewhere may change freely.
+//!
+//! FENCE.I is where a guest asks that its stores be seen by later fetches. It ends its block, so that a caller comes back to its own loop
+//! before anything behind it is translated or entered: [`BlockResult::next_pc`] is then the address behind it, and [`Run::fetch`] has
+//! fetched nothing from there. Whoever keeps blocks either drops each when a store reaches its halfwords, or drops all of them behind
+//! every FENCE.I, at the latest before the next block is entered, and translates what is entered anew:
+//!
+//! ```
+//! use emuko_x64_blocks::{translate, Request, GREATEST_BLOCK};
+//!
+//! // FENCE.I; ADDI x1, x0, 5
+//! let run = [0x100F, 0x0000, 0x0093, 0x0050];
+//! let mut out = [0; GREATEST_BLOCK];
+//! let block = translate(&Request::new(0x8000_0000, &run), &mut out)?;
+//! assert_eq!((block.bytes().len(), block.count()), (67, 1));
+//! // The block's last word is word count - 1 of the run; by opcode and funct3 it is FENCE.I.
+//! let last = run[2 * (block.count() as usize - 1)];
+//! assert_eq!(last & 0x707F, 0x100F);
+//! # Ok::<(), emuko_x64_blocks::Refusal>(())
+//! ```
+//!
+//! In the second way a block may be entered between a store to its halfwords and the next FENCE.I. The manual lets such a fetch see the old
+//! code as well as the new, but the proof covers only entries of blocks whose halfwords are unchanged.
+//!
 //! # Building
 //!
 //! The build script needs `rt` on the PATH. It proves the crates first, which takes minutes from nothing and seconds when nothing has

@@ -11,7 +11,7 @@ pub enum WordKind {
     NotTaken = 0,
     /// The block goes on behind it.
     Straight = 1,
-    /// A jump or branch: it ends its block.
+    /// A jump, a branch or FENCE.I: it ends its block.
     Ending = 2,
     /// A load or store: the memory helper executes it, and ends the block.
     MemoryHelper = 3,
@@ -23,7 +23,9 @@ pub enum WordKind {
 /// use emuko_x64_blocks::{word_kind, WordKind};
 ///
 /// assert_eq!(word_kind(0x0050_0093), WordKind::Straight); // ADDI x1, x0, 5
+/// assert_eq!(word_kind(0x0000_000F), WordKind::Straight); // FENCE
 /// assert_eq!(word_kind(0xFE20_9CE3), WordKind::Ending); // BNE x1, x2, -8
+/// assert_eq!(word_kind(0x0000_100F), WordKind::Ending); // FENCE.I
 /// assert_eq!(word_kind(0x0000_B083), WordKind::MemoryHelper); // LD x1, 0(x1)
 /// assert_eq!(word_kind(0x0220_91B3), WordKind::NotTaken); // MULH x3, x1, x2
 /// ```
@@ -62,8 +64,8 @@ impl Run {
     }
 
     /// Fetches halfword by halfword from `start` on, each by a call of `fetch` with its address. None is fetched behind a compressed
-    /// instruction, behind a word that is not [straight](WordKind::Straight), or behind `limit` instructions; none at all where the
-    /// limit is 0 or the start odd, which [`translate`](crate::translate) refuses. What the run held before is gone.
+    /// instruction, behind a word that is not [straight](WordKind::Straight), such as FENCE.I, or behind `limit` instructions; none at
+    /// all where the limit is 0 or the start odd, which [`translate`](crate::translate) refuses. What the run held before is gone.
     ///
     /// ```
     /// use emuko_x64_blocks::Run;

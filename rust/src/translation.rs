@@ -13,7 +13,8 @@ pub struct Request<'a> {
     pub start: u64,
     /// The greatest number of guest instructions to take; [`MOST_STEPS`] where it is more than that.
     pub limit: u32,
-    /// The guest's code from `start` on, as far as it can be fetched, or a [`Run`](crate::Run) of it.
+    /// The guest's code from `start` on, as far as it can be fetched, or a [`Run`](crate::Run) of it. The block may be entered as long
+    /// as this is still the guest's code there (["Code that changes"](crate#code-that-changes)).
     pub halfwords: &'a [u16],
     /// The addresses that helper ends call.
     pub helpers: Helpers,
