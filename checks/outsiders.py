@@ -1,21 +1,24 @@
 #!/usr/bin/env python3
 """Blocks read by objdump and compared with qemu-riscv64: what others say of the definitions. Not part of the gate.
 
-    checks/outsiders.py [--seed N] [--blocks N] [--runs N] [--spoil]
+    checks/outsiders.py [--seed N] [--blocks N] [--runs N] [--programs N] [--spoil]
 
-Needs the program translate (`rt check translate` at the repository's root builds it into target/bin), objdump (binutils) for
-the first part, and an x86-64 Linux with qemu-riscv64 (Debian: qemu-user) for the second; QEMU_RISCV64 may name the latter.
-A part whose tool is missing, or of which no run is asked for, is skipped and says so.
+Needs the programs translate and, for the third part, replay (`rt check translate` and `rt check replay` at the repository's root build them
+into target/bin), objdump (binutils) for the first part, and an x86-64 Linux with qemu-riscv64 (Debian: qemu-user) for the others;
+QEMU_RISCV64 may name the latter. A part whose tool is missing, or of which no run is asked for, is skipped and says so.
 
 1. objdump: random runs are translated, and objdump reads the blocks. Instruction boundaries must meet every block's start and
    end, nothing may be (bad), opening and closing must be document 01's, and between them every instruction must be the one
    that the word's row in the table below says, operands included.
-2. qemu: random runs of straight words, with or without a jump or branch at the end, are translated and entered on this
+2. qemu: random runs of straight words, with or without a jump, a branch or FENCE.I at the end, are translated and entered on this
    processor. The same words stand in the memory of a RISC-V program under qemu-riscv64, which is led through them by single
    steps over its debugger's port. All registers and the pc must be the same after the block's count of steps. JALR has funct3
    0, since qemu refuses the others.
+3. changed code: random loops that store a word over one of their own, then have FENCE.I, are run block by block on this processor, and by
+   single steps under qemu. Blocks are kept by their pc, and all are dropped behind a FENCE.I. The store, which is a helper's in a block, is
+   done here. All registers and the pc must be the same after the last step.
 
-With --spoil, each part changes one thing (a byte of a block, a word of a run) and must notice it by itself.
+With --spoil, each part changes one thing (a byte of a block, a word of a run, that blocks are dropped) and must notice it by itself.
 
 Ends with exit code 0 where no part found a disagreement (with --spoil: where every part found one), 1 where some part did (did not),
 2 where nothing could be checked.
@@ -38,6 +41,7 @@ import time
 
 ROOT = os.path.dirname(os.path.dirname(os.path.abspath(__file__)))
 TRANSLATE = os.path.join(ROOT, "target", "bin", "translate")
+REPLAY = os.path.join(ROOT, "target", "bin", "replay")
 START = 0x80000000
 M64 = (1 << 64) - 1
 
@@ -94,15 +98,20 @@ class Words:
             opcode, rows = rng.choice(((0x33, OP), (0x3B, OP32)))
             seven, funct3 = rng.choice(tuple(rows))
             return self.word(opcode, funct3, seven << 5 | self.register())
-        return self.word(0x0F, rng.randrange(2), self.twelve())
+        return self.word(0x0F, 0, self.twelve())
+
+    def fence_i(self):
+        return self.word(0x0F, 1, self.twelve())
 
     def ending(self, reserved):
         rng = self.rng
-        sort = rng.randrange(3)
+        sort = rng.randrange(4)
         if sort == 0:
             return rng.randrange(1 << 20) << 12 | self.register() << 7 | 0x6F
         if sort == 1:
             return self.word(0x67, rng.randrange(8) if reserved else 0, self.twelve())
+        if sort == 2:
+            return self.fence_i()
         return self.word(0x63, rng.choice(tuple(BRANCH)), rng.randrange(4096))
 
     def memory(self):
@@ -159,7 +168,7 @@ def store(register, host):
 
 
 def host_instructions(word, pc):
-    """The host instructions of a word, and 'on', 'ends', 'helper' or 'refused'."""
+    """The host instructions of a word, and 'on', 'ends' (RAX is set by them), 'stops' (by the block's end), 'helper' or 'refused'."""
     opcode, rd, funct3 = word & 0x7F, word >> 7 & 31, word >> 12 & 7
     rs1, rs2, seven = word >> 15 & 31, word >> 20 & 31, word >> 25
     i = signed(word >> 20, 12)
@@ -217,7 +226,7 @@ def host_instructions(word, pc):
             text += [f"{name} {a},{b}"]
         return text + ([] if opcode == 0x33 else ["movsxd r10,r10d"]) + store(rd, "r10"), "on"
     if opcode == 0x0F and funct3 < 2:
-        return [], "on"
+        return [], "stops" if funct3 == 1 else "on"
     if opcode == 0x03 and funct3 < 7 or opcode == 0x23 and funct3 < 4:
         return [], "helper"
     return [], "refused"
@@ -245,8 +254,8 @@ def expected(code):
         if flow == "refused":
             break
         pc, at, count = pc + 4, at + 4, count + 1
-        if flow == "ends":
-            rax = True
+        if flow in ("ends", "stops"):
+            rax = flow == "ends"
             break
     if count == 0:
         return []
@@ -273,9 +282,11 @@ def runs_for_objdump(words, number_of_runs):
     rng = words.rng
     for _ in range(number_of_runs):
         straight = [words.straight() for _ in range(rng.choice((0, 1, 1, 2, 4, 16, 63, 64)))]
-        end = rng.randrange(6)
+        end = rng.randrange(7)
         if end == 0:
             straight = straight[:63] + [words.ending(True)]
+        elif end == 5:
+            straight = straight[:62] + [words.fence_i(), words.straight()]
         elif end == 1:
             straight = straight[:63] + [words.memory()]
         elif end == 2:
@@ -458,6 +469,125 @@ def check_qemu(program, words, number_of_runs, spoil):
     print(f"qemu: {number_of_runs} blocks, {steps} single steps, registers and pc the same")
 
 
+# ---- code that changes
+
+ADDRESS, STORED, LEFT = 5, 6, 7  # registers: the code's address, the word that is stored, how many rounds are left
+KEPT_REGISTERS = (ADDRESS, STORED, LEFT)
+
+
+def destination(word):
+    return word >> 7 & 31
+
+
+def is_fence_i(word):
+    return word & 0x7F == 0x0F and word >> 12 & 7 == 1
+
+
+def is_store(word):
+    return word & 0x7F == 0x23
+
+
+def store_word(offset):
+    """SW of STORED to ADDRESS + offset."""
+    return (offset >> 5) << 25 | STORED << 20 | ADDRESS << 15 | 2 << 12 | (offset & 31) << 7 | 0x23
+
+
+def store_offset(word):
+    return word >> 25 << 5 | word >> 7 & 31
+
+
+def branch_back(words):
+    """BNE LEFT, x0, over so many words back."""
+    offset = -4 * words & 0x1FFF
+    return (offset >> 12 << 31 | (offset >> 5 & 63) << 25 | LEFT << 15 | 1 << 12 | (offset >> 1 & 15) << 8 | (offset >> 11 & 1) << 7 | 0x63)
+
+
+def changing_loop(words, spoil):
+    """A loop of words, and the word that it stores over one of them. That one stands in front of the store or behind the FENCE.I: between
+    them the manual leaves open which of the two is fetched."""
+    rng = words.rng
+
+    def straight():
+        while True:
+            word = words.straight()
+            if destination(word) not in KEPT_REGISTERS:
+                return word
+
+    front, between, behind = ([straight() for _ in range(rng.randrange(least, 8))] for least in (1, 0, 1))
+    new = straight()
+    if spoil:
+        front, between, behind, new = [0x5A5A5FB7], [], [], 0x12345FB7  # LUI x31
+    first_behind = len(front) + 1 + len(between) + 1
+    changed = rng.choice([*range(len(front)), *range(first_behind, first_behind + len(behind))])
+    loop = front + [store_word(4 * changed)] + between + [words.fence_i()] + behind
+    loop.append(0xFFF38393)  # ADDI x7, x7, -1
+    return loop + [branch_back(len(loop))], new
+
+
+class Replay:
+    """The program replay, which translates at any start."""
+
+    def __init__(self):
+        self.process = subprocess.Popen([REPLAY], stdin=subprocess.PIPE, stdout=subprocess.PIPE, text=True)
+
+    def translate(self, start, run):
+        """The block of these words at the start."""
+        halfwords = ",".join(f"{word & 0xFFFF:04x},{word >> 16:04x}" for word in run)
+        self.process.stdin.write(f"T {start:x} 64 0 0 2243 {halfwords}\n")
+        self.process.stdin.flush()
+        reply = self.process.stdout.readline().split()
+        demand(reply[0] == "block" and len(reply) == 4, "reply", *reply)
+        return bytes.fromhex(reply[3])
+
+    def close(self):
+        self.process.stdin.close()
+        self.process.stdout.close()
+        self.process.wait()
+
+
+def run_by_blocks(replay, processor, loop, registers, drops):
+    """Registers, pc, steps and entries of a loop run to its end. Blocks are kept by pc; `drops`: none is kept behind a FENCE.I."""
+    code, kept = list(loop), {}
+    pc, steps, entries = START, 0, 0
+    while START <= pc < START + 4 * len(code):
+        at = (pc - START) // 4
+        if is_store(code[at]):
+            code[(registers[ADDRESS] + store_offset(code[at]) - START) // 4] = registers[STORED]
+            pc, steps = pc + 4, steps + 1
+            continue
+        if pc not in kept:
+            until = next((k for k in range(at, len(code)) if is_store(code[k])), len(code))
+            kept[pc] = replay.translate(pc, code[at:until])
+        registers, pc, count = processor.run(kept[pc], registers)
+        last = code[at + count - 1]
+        steps, entries = steps + count, entries + 1
+        if drops and is_fence_i(last):
+            kept.clear()
+    return registers, pc, steps, entries
+
+
+def check_changed_code(program, words, number_of_programs, spoil):
+    rng = words.rng
+    processor, qemu, replay = Processor(), Qemu(program), Replay()
+    steps = entries = 0
+    try:
+        for k in range(number_of_programs):
+            spoiled = spoil and k == number_of_programs // 2
+            loop, new = changing_loop(words, spoiled)
+            registers = values(rng)
+            registers[ADDRESS], registers[STORED], registers[LEFT] = START, new, rng.randrange(2, 4)
+            after, pc, more, entered = run_by_blocks(replay, processor, loop, registers, not spoiled)
+            led, at = qemu.run(loop, registers, more)
+            others = [(i, hex(a), hex(b)) for i, (a, b) in enumerate(zip(after, led)) if a != b]
+            demand(not others, "registers after", code_of(loop).hex(), hex(new), others)
+            demand(pc == at, "pc after", code_of(loop).hex(), hex(new), hex(pc), hex(at))
+            steps, entries = steps + more, entries + entered
+    finally:
+        replay.close()
+        qemu.close()
+    print(f"changed code: {number_of_programs} programs, {entries} entries of blocks, {steps} single steps, registers and pc the same")
+
+
 def number_of_runs(text):
     number = int(text)
     if number < 0:
@@ -483,6 +613,15 @@ def parts(options):
         print("qemu: skipped, qemu-riscv64 is not installed (Debian: qemu-user)")
     else:
         found.append(("qemu", lambda: check_qemu(qemu, Words(random.Random(options.seed + 1)), options.runs, options.spoil)))
+    if options.programs == 0:
+        print("changed code: skipped, no program is asked for")
+    elif not os.access(REPLAY, os.X_OK):
+        print("changed code: skipped, target/bin/replay is not there: `rt check replay` builds it")
+    elif (platform.system(), platform.machine()) != ("Linux", "x86_64") or not qemu:
+        print("changed code: skipped, as qemu is")
+    else:
+        words = Words(random.Random(options.seed + 2))
+        found.append(("changed code", lambda: check_changed_code(qemu, words, options.programs, options.spoil)))
     return found
 
 
@@ -491,6 +630,7 @@ def main():
     parser.add_argument("--seed", type=int, default=1)
     parser.add_argument("--blocks", type=number_of_runs, default=1000, help="runs for objdump")
     parser.add_argument("--runs", type=number_of_runs, default=1000, help="runs for qemu")
+    parser.add_argument("--programs", type=number_of_runs, default=200, help="loops that change their code, for qemu")
     parser.add_argument("--spoil", action="store_true", help="change one thing in each part, which must be noticed")
     options = parser.parse_args()
     if not os.access(TRANSLATE, os.X_OK):
