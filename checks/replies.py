@@ -5,7 +5,7 @@
     checks/replies.py ORACLE --write    writes it
 
 ORACLE is a program over the original Rust that answers the request lines of crates/replay/stdin on its standard input, a line each; it
-is not in this repository. (`cargo test` in rust/, module `linked`, compares the first 3,400 of them with the original that is.)
+is not in this repository. (`cargo test` in rust/, module `linked`, compares the same replies with rust/original, which is.)
 
 FENCE.I ends its block here, and in the original the block goes on behind it. So the original is asked for the run cut behind its first
 FENCE.I: it finds no further halfword there and ends its block. Where the block ends before that word, nothing that is cut off is
