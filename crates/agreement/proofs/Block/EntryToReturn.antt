@@ -10,7 +10,7 @@ use lib.Dec.{eqb, eqb→eq, leb}
 use lib.ListN.{length, length-append}
 use lib.Pow.{low}
 use Rattle.agreement.specs.Common.{Helper, Helper.forAccess, Helper.forHalfword}
-use Rattle.agreement.specs.Riscv.Run.{Read, Registers, Stop.called, Stop.plain, does}
+use Rattle.agreement.specs.Riscv.Run.{Read, Registers, Stop.called, Stop.plain}
 use Rattle.agreement.specs.Translation.Emit.{addCount, closing, opening, passes}
 use Rattle.agreement.specs.Translation.Walk.{End, End.calls, End.goesOn, End.jumped, Walked, ending, helperAt, instrs}
 use Rattle.agreement.specs.X86.Encode.{bytes, encode}
@@ -21,7 +21,7 @@ use Rattle.agreement.specs.X86.Form.Alu.{add}
 use Rattle.agreement.specs.X86.Form.Instr.{aluImm32, callRax, movImm64, ret}
 use Rattle.agreement.specs.X86.Memory.{at, read}
 use Rattle.agreement.specs.X86.State.{Flags, Permissions, State}
-use Rattle.agreement.specs.X86.Step.{next, past, step, steps}
+use Rattle.agreement.specs.X86.Step.{next, past, step}
 use Rattle.agreement.proofs.Block.Stages.{Calls, Entry, Exit, Inside, Mid, Place, Returned, Way, begin, call-step, called-at}
 use Rattle.agreement.proofs.Block.Stages.{came-back, go-on, leave, way-append}
 use Rattle.agreement.proofs.Host.Fetching.{fetch, one}

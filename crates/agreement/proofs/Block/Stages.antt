@@ -7,10 +7,9 @@ use mathlib.Core.Path.{_∙_, _≡_, ap, refl, sym}
 use Prim.Native.Nat.{_%_, _*_, _+_, _-_, _<_, _^_, _≤_, ℕ}
 use native.Mathlib.Omega.{arith}
 use lib.ListN.{length, length-append}
-use Rattle.agreement.specs.Riscv.Run.{Registers, does}
+use Rattle.agreement.specs.Riscv.Run.{Registers}
 use Rattle.agreement.specs.Translation.Emit.{closing, opening}
 use Rattle.agreement.specs.Statement.Premises.{Apart}
-use Rattle.agreement.specs.X86.Decode.{Operand.mem}
 use Rattle.agreement.specs.X86.Encode.{bytes, encode}
 use Rattle.agreement.specs.X86.Execute.{accesses, exec}
 use Rattle.agreement.specs.X86.Form.{Instr, Instr.callRax, Instr.ret, Ok, R12, R13, R14, R15, RAX, RBP, RBX, RCX, RDI, RDX, RSI, RSP}

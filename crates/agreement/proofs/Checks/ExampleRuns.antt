@@ -20,7 +20,6 @@ use Rattle.agreement.specs.X86.Step.{all, cut, did, fetched, next, past,
 use Rattle.agreement.proofs.Checks.Cases.{words}
 use Rattle.agreement.proofs.Checks.CasesHold.{immediates, translations}
 use Rattle.agreement.proofs.Checks.Example.{leaves, plainTurn, range, zeros}
-use Rattle.agreement.proofs.Host.Fetching.{fetch}
 
 abbrev code : List ℕ
 code = bytes (instrs 0x1111 0x2222 (walked 0x80000010 64 (words (0x00108113 ∷ 0x00209863 ∷ []))))

@@ -4,7 +4,6 @@ use mathlib.Core.Path.{refl}
 use Rattle.agreement.proofs.Checks.Cases.{copies, words}
 use Rattle.agreement.specs.Laws.{BothReached, Reaches}
 use Rattle.agreement.specs.Translation.Replies.{blockOf, walked}
-use Rattle.agreement.specs.X86.Execute.{result}
 use Rattle.agreement.proofs.Checks.CasesHold.{translations}
 
 the-least : Reaches 67

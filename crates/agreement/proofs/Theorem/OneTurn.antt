@@ -8,10 +8,10 @@ use native.Mathlib.Omega.{arith}
 use lib.Dec.{eqb, leb, ltb}
 use lib.ListN.{length}
 use Rattle.agreement.specs.Common.{Helper, Helper.forAccess, Helper.forHalfword, mostSteps}
-use Rattle.agreement.specs.Riscv.Run.{Feed, GuestState, Left, Read, Registers, Stop.called, Stop.plain, does, readTurn, reading, turn}
+use Rattle.agreement.specs.Riscv.Run.{Feed, GuestState, Left, Read, Registers, Stop.called, Stop.plain, readTurn, reading, turn}
 use Rattle.agreement.specs.Translation.Emit.{addCount, closing, opening, passes}
 use Rattle.agreement.specs.Translation.Replies.{Block, Reply.block, blockOf, walked}
-use Rattle.agreement.specs.Translation.Walk.{End, Walked, before, counted, ending, helperAt, instrs}
+use Rattle.agreement.specs.Translation.Walk.{End, Walked, counted, ending, helperAt, instrs}
 use Rattle.agreement.specs.Translation.Walk.End.{calls, goesOn, jumped}
 use Rattle.agreement.specs.Statement.Agreement.{At, Entered, Returns, feed, feedOf, helperOf, inReturn, inSaved, inSlots, isRefused}
 use Rattle.agreement.specs.Statement.Agreement.{leftBy, own}
@@ -19,13 +19,12 @@ use Rattle.agreement.specs.Statement.Machine.{By, Call, RegisterBytes, S
 use Rattle.agreement.specs.Statement.Machine.Event.{visited}
 use Rattle.agreement.specs.Statement.Machine.Went.{helped, plainly}
 use Rattle.agreement.specs.Statement.Premises.{Enterable, Keeps, Layout, Typed, Unchanged}
-use Rattle.agreement.specs.X86.Decode.{Bytes, Operand.mem}
+use Rattle.agreement.specs.X86.Decode.{Bytes}
 use Rattle.agreement.specs.X86.Encode.{bytes, encode}
 use Rattle.agreement.specs.X86.Form.{Alu.add, Instr, Instr.aluImm32, Instr.callRax, Instr.ret, Ok, RAX, RDI, RDX, RSP}
 use Rattle.agreement.specs.X86.Memory.{Memory, at, nth, overlay, read}
 use Rattle.agreement.specs.X86.State.{State}
-use Rattle.agreement.specs.X86.Step.{all, next, step, steps}
-use Rattle.agreement.proofs.Block.Frame.{frame}
+use Rattle.agreement.specs.X86.Step.{all, next, step}
 use Rattle.agreement.proofs.Block.Stages.{Entry, Exit, Place, Returned, way-out}
 use Rattle.agreement.proofs.Block.EntryToReturn.{Back, Calling, Leaving, calls-leaves, goesOn-leaves, jumped-leaves}
 use Rattle.agreement.proofs.Host.Fetching.{fetch, one}

@@ -15,13 +15,11 @@ use Rattle.agreement.specs.Translation.Emit.{codeBranch, codeConst, code
 use Rattle.agreement.specs.Translation.Kind.{kind}
 use Rattle.agreement.specs.Translation.Walk.{End, Walked, before, emit, helps, jumps, notTakenAt, stopsAt, stopsBehind, walk}
 use Rattle.agreement.specs.Translation.Walk.End.{calls, goesOn, jumped}
-use Rattle.agreement.specs.Statement.Machine.{History.end}
 use Rattle.agreement.specs.Statement.Premises.{Halfwords}
 use Rattle.agreement.specs.X86.Execute.{exec}
 use Rattle.agreement.specs.X86.Form.{Instr, R10, R11, RAX}
 use Rattle.agreement.specs.X86.State.{Flags, State}
-use Rattle.agreement.specs.X86.Step.{next, past}
-use Rattle.agreement.proofs.Checks.Cases.{Case.same}
+use Rattle.agreement.specs.X86.Step.{past}
 use Rattle.agreement.proofs.Host.Fetching.{one}
 use Rattle.agreement.proofs.Host.Straight.{run, run-append}
 use Rattle.agreement.proofs.Laws.Fields.{long-is, opcode-is, rd-is, rs1-is, rs2-is, shamt5-is, shamt6-is, wordOf-is}
