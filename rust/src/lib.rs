@@ -21,8 +21,8 @@
 //! # Code that changes
 //!
 //! A block does what the guest's code says as long as the halfwords that it was made from, no more than [`Run::fetch`] fetches, are those
-//! that stand in the guest's code when the block is entered. That is a premise of what is proved, and nothing here tests it: a block that is
-//! kept must not be entered any more once one of them has changed. Code elsewhere may change freely.
+//! that stand in the guest's code when the block is entered. That is a premise of what is proved, and nothing here tests it: a block that
+//! is kept must not be entered any more once one of them has changed. Code elsewhere may change freely.
 //!
 //! FENCE.I is where a guest asks that its stores be seen by later fetches. It ends its block, so that a caller comes back to its own loop
 //! before anything behind it is translated or entered: [`BlockResult::next_pc`] is then the address behind it, and [`Run::fetch`] has

@@ -76,7 +76,7 @@ NeedsNoMore = (start limit : ℕ) (hs : List ℕ) (helper16 helperMem room : ℕ
     → translate start limit (needed (min limit mostSteps) hs) helper16 helperMem room
     ≡ translate start limit hs helper16 helperMem room
 
--- What a code has at an address, its run has; so code that has changed elsewhere has the same run.
+-- A run is what stands at its own addresses: code that has changed elsewhere has the same run.
 
 unfoldable pub RunsAlike : Type 0
 RunsAlike = (c d : Code) (pc n : ℕ) → pc < 2 ^ 64

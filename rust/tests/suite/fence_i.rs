@@ -1,5 +1,5 @@
-//! FENCE.I ends its block here, and in the original Rust the block goes on behind it. The original is therefore asked for the run cut behind
-//! its first FENCE.I, where it finds no further halfword, or for no more words than lead there.
+//! FENCE.I ends its block here, and in the original Rust the block goes on behind it. The original is therefore asked for the run cut
+//! behind its first FENCE.I, where it finds no further halfword, or for no more words than lead there.
 
 use crate::random::Random;
 use crate::requests;

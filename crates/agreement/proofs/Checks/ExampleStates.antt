@@ -7,7 +7,8 @@ use lib.Dec.{eqb}
 use Rattle.agreement.specs.Common.{Helper.forAccess, Helper.forHalfword}
 use Rattle.agreement.specs.Riscv.Instruction.{branches, find, findIn, threeIs, topIs, valueOpImm}
 use Rattle.agreement.specs.Riscv.Code.{runAt}
-use Rattle.agreement.specs.Riscv.Run.{GuestState, Registers, does, firstRefused, help, isLong, isNotTaken, reading, refused, taken, writeX}
+use Rattle.agreement.specs.Riscv.Run.{GuestState, Registers, does, firstRefused, help, isLong, isNotTaken, reading, refused, taken}
+use Rattle.agreement.specs.Riscv.Run.{writeX}
 use Rattle.agreement.specs.Riscv.Run.Stop.{called, plain}
 use Rattle.agreement.specs.Riscv.Immediates as Manual
 use Rattle.agreement.specs.Statement.Agreement.{feedOf, isRefused, start}

@@ -43,14 +43,16 @@ not-written P x (w ∷ ws) n h = go (P w) refl (eqb w x) refl (not-written P x w
     go false p c q f e = absurd (let z : _≡_ {A = ℕ} 0 1 = cc in omega arith)
 
 -- the stack at entry is the rest of memory: neither the register bytes nor the block stand there
-stack-is : (sp : ℕ) (g : Code) (hs : List ℕ) (h : State → State) (code : List ℕ) (rb : RegisterBytes) (i : ℕ) → Allowed sp → length code ≤ 2243
+stack-is : (sp : ℕ) (g : Code) (hs : List ℕ) (h : State → State) (code : List ℕ) (rb : RegisterBytes) (i : ℕ)
+    → Allowed sp → length code ≤ 2243
     → enter (turnOf sp g hs h) code rb .mem (sp + i) ≡ (sp + i) % 256
 unfolding enter
 stack-is sp g hs h code rb i s l =
     overlay-out (overlay (λ a. a % 256) 0x10000 256 rb) 0x20000 (length code) (nth code) (sp + i) (λ j k. omega (arith, s .above))
     ∙ overlay-out (λ a. a % 256) 0x10000 256 rb (sp + i) (λ j k. omega (arith, s .above))
 
-return-address : (sp : ℕ) (g : Code) (hs : List ℕ) (h : State → State) (code : List ℕ) (rb : RegisterBytes) → Allowed sp → length code ≤ 2243
+return-address : (sp : ℕ) (g : Code) (hs : List ℕ) (h : State → State) (code : List ℕ) (rb : RegisterBytes)
+    → Allowed sp → length code ≤ 2243
     → read 8 (enter (turnOf sp g hs h) code rb .mem) sp ≡ read 8 (λ a. a % 256) sp
 return-address sp g hs h code rb s l =
     read-ext 8 (enter (turnOf sp g hs h) code rb .mem) (λ a. a % 256) sp (omega (arith, s .fits)) (λ i k.

@@ -152,7 +152,8 @@ ends-here m P p pc rb [] pc′ rb′ end a = p
 
 ends-after : (m n : GuestState) (t : Turn) (ts : List Turn) (P : List Event → GuestState → Type 0) (e : Event)
     → turn (feed t e) m ≡ n → Ends n ts (λ es. P (e ∷ es))
-    → (pc : ℕ) (rb : RegisterBytes) (es : List Event) (pc′ : ℕ) (rb′ : RegisterBytes) → History pc rb ts es pc′ rb′ → Along (turn (feed t e) m) ts es → P (e ∷ es) (manual (feeds (t ∷ ts) (e ∷ es)) m)
+    → (pc : ℕ) (rb : RegisterBytes) (es : List Event) (pc′ : ℕ) (rb′ : RegisterBytes)
+    → History pc rb ts es pc′ rb′ → Along (turn (feed t e) m) ts es → P (e ∷ es) (manual (feeds (t ∷ ts) (e ∷ es)) m)
 unfolding feeds manual
 ends-after m n t ts P e z k pc rb es pc′ rb′ h a =
     subst (λ (x : GuestState). P (e ∷ es) (manual (feeds ts es) x)) (sym z) (k pc rb es pc′ rb′ h (rw z at a))

@@ -21,9 +21,10 @@ RegisterBytes = ℕ → ℕ
 -- a turn: what is translated, and how its block is entered if there is one
 pub record Turn : Type 0 where
   pub limit : ℕ
-  -- the run of halfwords that is translated: at this turn, or at any earlier time, since a translation depends on nothing else
+  -- the run of halfwords that is translated, at this turn or at any earlier time: the reply is a function of it, of the pc and of the
+  -- limit, helpers and output's length here
   pub made : List ℕ
-  -- the guest's code as it is at this turn, and how many halfwords of it were fetched: nothing here reads these two
+  -- the guest's code as it is at this turn, and how many halfwords of it were fetched. Nothing in this file reads these two
   pub code : Code
   pub reach : ℕ
   -- the pair of helpers, and the lent output
