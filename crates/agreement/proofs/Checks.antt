@@ -14,4 +14,6 @@ pub mod ExampleStates
 pub mod PremisesMet
 pub mod WitnessEntries
 pub mod Witness
+pub mod Runs
 pub mod CodeChanges
+pub mod StaleBlock

@@ -1,24 +1,18 @@
 -- The guest's code changes between turns: it stores new code, issues FENCE.I and enters what it stored. The theorem is applied.
--- A block made from the old code does not meet the premise on code, and without that premise the theorem would be false.
-use mathlib.Core.Bool.{cond, false}
+use mathlib.Core.Bool.{false}
 use mathlib.Core.List.{List, [], _∷_}
-use mathlib.Core.Option.{none, some}
-use mathlib.Core.Path.{_∙_, _≡_, ap, refl, sym}
-use Prim.Native.Nat.{_*_, _+_, ℕ}
+use mathlib.Core.Path.{_∙_, _≡_, refl}
+use Prim.Native.Nat.{_*_, _+_}
 use native.Mathlib.Omega.{arith}
-use lib.Dec.{eqb}
 use Rattle.agreement.specs.Common.{Helper.forAccess}
 use Rattle.agreement.specs.Riscv.Code.{Code, runAt}
 use Rattle.agreement.specs.Riscv.Instruction.{valueOpImm}
 use Rattle.agreement.specs.Riscv.Immediates as Manual
 use Rattle.agreement.specs.Riscv.Run.{GuestState, Stop.called, Stop.plain, jump, writeX}
 use Rattle.agreement.specs.Statement.Agreement.{Agrees, after, isRefused, start}
-use Rattle.agreement.specs.Statement.Machine.{By, Event, History, RegisterBytes, Turn, Turned, Visit, Went, enter, since}
-use Rattle.agreement.specs.Statement.Machine.History.{end, then}
-use Rattle.agreement.specs.Statement.Machine.Turned.{skip, visit}
-use Rattle.agreement.specs.Statement.Machine.Went.{helped, plainly}
-use Rattle.agreement.specs.Statement.Premises.{Halfwords, Unchanged}
-use Rattle.agreement.specs.X86.Form.{Instr, RAX, RDX}
+use Rattle.agreement.specs.Statement.Machine.{Event, Turn, since}
+use Rattle.agreement.specs.Statement.Premises.{Halfwords}
+use Rattle.agreement.specs.X86.Form.{RAX, RDX}
 use Rattle.agreement.specs.X86.Memory.{put, read, write}
 use Rattle.agreement.specs.X86.State.{State}
 use Rattle.agreement.proofs.Checks.Cases.{words}
@@ -29,45 +23,16 @@ use Rattle.agreement.proofs.Laws.Runs.{held}
 use Rattle.agreement.proofs.Theorem.Consequences.{WentPlainly, afterHelper, afterPlain, readAs}
 use Rattle.agreement.proofs.Theorem.TurnByTurn.{Ends, MeetsAt, Met, ends-helped, ends-here, ends-plain, met-helped, met-plain}
 
--- 1. Runs of a code, by computing
-
--- halfwords at 2^64 - 4, 2^64 - 2, 0, 2, 3 and 6, and none elsewhere
-abbrev around : Code
-around x =
-    cond (eqb x 0xFFFFFFFFFFFFFFFC) (some 0x100F) (cond (eqb x 0xFFFFFFFFFFFFFFFE) (some 0x0000)
-    (cond (eqb x 0) (some 0x0093) (cond (eqb x 2) (some 0x0050) (cond (eqb x 3) (some 0x0001) (cond (eqb x 6) (some 0x0002) none)))))
-
--- on from 2^64 - 1 to 0; no further than was fetched; up to the first halfword that is missing; at an odd address; nowhere
-runs-wrap : runAt around 0xFFFFFFFFFFFFFFFC 4 ≡ 0x100F ∷ 0x0000 ∷ 0x0093 ∷ 0x0050 ∷ []
-unfolding runAt
-runs-wrap = refl
-
-runs-reach : runAt around 0xFFFFFFFFFFFFFFFC 3 ≡ 0x100F ∷ 0x0000 ∷ 0x0093 ∷ []
-unfolding runAt
-runs-reach = refl
-
-runs-end : runAt around 0xFFFFFFFFFFFFFFFE 64 ≡ 0x0000 ∷ 0x0093 ∷ 0x0050 ∷ []
-unfolding runAt
-runs-end = refl
-
-runs-odd : runAt around 3 64 ≡ 0x0001 ∷ []
-unfolding runAt
-runs-odd = refl
-
-runs-nowhere : runAt around 4 64 ≡ []
-unfolding runAt
-runs-nowhere = refl
-
--- 2. The guest: SW x2, 0(x3); FENCE.I; ADDI x1, x0, 5; JAL x0, -12, at 0x80000000. The store writes ADDI x1, x0, 7 over the third word
+-- 1. The guest: SW x2, 0(x3); FENCE.I; ADDI x1, x0, 5; JAL x0, -12, at 0x80000000. The store writes ADDI x1, x0, 7 over the third word
 
 abbrev oldCode : Code
 oldCode = held 0x80000000 (words (0x0021A023 ∷ 0x0000100F ∷ 0x00500093 ∷ 0xFF5FF06F ∷ []))
 
-abbrev newCode : Code
+abbrev pub newCode : Code
 newCode = held 0x80000000 (words (0x0021A023 ∷ 0x0000100F ∷ 0x00700093 ∷ 0xFF5FF06F ∷ []))
 
 -- ADDI x1, x0, 5 and JAL, the code as it was; entered first
-abbrev oldTurn : Turn
+abbrev pub oldTurn : Turn
 oldTurn = turnOf 0x30008 oldCode (words (0x00500093 ∷ 0xFF5FF06F ∷ [])) (leaves 1 0 0 0)
 
 -- the store, by the memory helper, which goes on behind it
@@ -89,12 +54,12 @@ newTurn = turnOf 0x30008 newCode (words (0x00700093 ∷ 0xFF5FF06F ∷ [])) (lea
 abbrev fourTurns : List Turn
 fourTurns = oldTurn ∷ storeTurn ∷ fenceTurn ∷ newTurn ∷ []
 
--- 3. The premises are met, and the theorem is applied
+-- 2. The premises are met, and the theorem is applied
 
 allowed : Allowed 0x30008
 allowed = record { above = omega arith; fits = omega arith; aligned = refl }
 
-old-meets : MeetsAt oldTurn 0x80000008
+pub old-meets : MeetsAt oldTurn 0x80000008
 old-meets =
     turnOf-meets 0x30008 oldCode (oldTurn .made) 1 0 0 0 0x80000008 allowed
     (unfold words Halfwords in omega arith) (unfold words runAt in refl) (omega arith) (omega arith) (omega arith)
@@ -115,7 +80,7 @@ new-meets =
     (unfold words Halfwords in omega arith) (unfold words runAt in refl) (omega arith) (omega arith) (omega arith)
 
 -- the manual's states: at the start, after the first turn, after the store's helper, which was entered in u, and after FENCE.I
-abbrev n0 : GuestState
+abbrev pub n0 : GuestState
 n0 = start 0x80000008 zeros
 
 abbrev n1 : GuestState
@@ -128,11 +93,11 @@ abbrev n3 : State → GuestState
 n3 u = afterPlain fenceTurn (n2 u)
 
 -- what kind of turn each is, by computing
-record Plainly (t : Turn) (m : GuestState) : Type 0 where
-  taken : isRefused t m ≡ false
-  stops : readAs t m .stop ≡ plain
+pub record Plainly (t : Turn) (m : GuestState) : Type 0 where
+  pub taken : isRefused t m ≡ false
+  pub stops : readAs t m .stop ≡ plain
 
-old-plain : Plainly oldTurn n0
+pub old-plain : Plainly oldTurn n0
 unfolding reads-a-turn
 old-plain = record { taken = refl; stops = refl }
 
@@ -171,9 +136,9 @@ four-met =
 pub four : Agrees 0x80000008 zeros fourTurns
 four = applied 0x80000008 fourTurns (omega arith) four-met
 
--- 4. What it says of the list
+-- 3. What it says of the list
 
-old-x1 : readAs oldTurn n0 .registers 1 ≡ 5
+pub old-x1 : readAs oldTurn n0 .registers 1 ≡ 5
 unfolding reads-a-turn valueOpImm Manual.signExtend writeX read
 old-x1 = refl
 
@@ -265,77 +230,3 @@ four-end = record {
   x1 = four .at-slots 1 (omega arith) ∙ four-turns .x1;
   count = four .at-count ∙ four-turns .count;
 }
-
--- 5. The block of the first turn where the new code stands: the premise is not met, and the theorem would be false of it
-
--- the same turn, the code being another
-abbrev recoded : Turn → Code → ℕ → Turn
-recoded t c n = record {
-  limit = t .limit;
-  made = t .made;
-  code = c;
-  reach = n;
-  helper16 = t .helper16;
-  helperMem = t .helperMem;
-  output = t .output;
-  block = t .block;
-  base = t .base;
-  sp = t .sp;
-  others = t .others;
-  flags = t .flags;
-  rest = t .rest;
-  ok = t .ok;
-  undefined = t .undefined;
-  helper = t .helper;
-}
-
-abbrev staleTurn : Turn
-staleTurn = recoded oldTurn newCode 4
-
-pub stale-changed : Unchanged staleTurn 0x80000008 → ⊥
-unfolding words runAt
-stale-changed e = let z : _≡_ {A = ℕ} 0x0050 0x0070 = cc in omega arith
-
--- what the machine does, does not depend on the code
-by-recoded : (t : Turn) (c : Code) (n : ℕ) {i : Instr} {u v : State} {ws : List ℕ} → By t i u v ws → By (recoded t c n) i u v ws
-by-recoded t c n b = record { size = b .size; fetch = b .fetch; does = b .does }
-
-went-recoded : (t : Turn) (c : Code) (n : ℕ) {s : State} {v : Visit} → Went t s v → Went (recoded t c n) s v
-went-recoded t c n (plainly g b) = plainly g (by-recoded t c n b)
-went-recoded t c n (helped g b h d) = helped g (by-recoded t c n b) h (by-recoded t c n d)
-
-turned-recoded : (t : Turn) (c : Code) (n : ℕ) {pc pc′ : ℕ} {rb rb′ : RegisterBytes} {e : Event}
-    → Turned pc rb t e pc′ rb′ → Turned pc rb (recoded t c n) e pc′ rb′
-unfolding enter
-turned-recoded t c n (skip e) = skip e
-turned-recoded t c n (visit e w) = visit e (went-recoded t c n w)
-
-once-recoded : (t : Turn) (c : Code) (n : ℕ) {pc pc′ : ℕ} {rb rb′ : RegisterBytes} {es : List Event}
-    → History pc rb (t ∷ []) es pc′ rb′ → History pc rb (recoded t c n ∷ []) es pc′ rb′
-once-recoded t c n (then h end) = then (turned-recoded t c n h) end
-
--- the machine gives x1 = 5, which is right of the old code; the manual's run of the new code gives 7
-abbrev X1Is : ℕ → List Event → GuestState → Type 0
-X1Is v es m = m .registers 1 ≡ v
-
-old-ends : Ends n0 (oldTurn ∷ []) (X1Is 5)
-old-ends =
-    ends-plain n0 oldTurn [] (X1Is 5) (old-plain .taken) (old-plain .stops) (λ e w. ends-here (afterPlain oldTurn n0) (X1Is 5) old-x1)
-
-stale-ends : Ends n0 (staleTurn ∷ []) (X1Is 7)
-unfolding reads-a-turn valueOpImm Manual.signExtend writeX read
-stale-ends = ends-plain n0 staleTurn [] (X1Is 7) refl refl (λ e w. ends-here (afterPlain staleTurn n0) (X1Is 7) refl)
-
-old-agrees : Agrees 0x80000008 zeros (oldTurn ∷ [])
-old-agrees =
-    applied 0x80000008 (oldTurn ∷ []) (omega arith)
-    (met-plain n0 oldTurn [] old-meets (old-plain .taken) (old-plain .stops) (unfold Met in tt))
-
-pub stale-disagrees : Agrees 0x80000008 zeros (staleTurn ∷ []) → ⊥
-stale-disagrees a =
-    let o = old-agrees in
-    let q = a .only (o .events) (o .pc′) (o .rb′) (once-recoded oldTurn newCode 4 (o .history)) in
-    let five : read 8 (o .rb′) (8 * 1) ≡ 5 = o .at-slots 1 (omega arith) ∙ old-ends _ _ (o .events) _ _ (o .history) (o .along) in
-    let seven : read 8 (a .rb′) (8 * 1) ≡ 7 = a .at-slots 1 (omega arith) ∙ stale-ends _ _ (a .events) _ _ (a .history) (a .along) in
-    let same : read 8 (a .rb′) (8 * 1) ≡ read 8 (o .rb′) (8 * 1) = ap (λ (b : RegisterBytes). read 8 b (8 * 1)) (q .2) in
-    omega (arith, sym five ∙ sym same ∙ seven)
