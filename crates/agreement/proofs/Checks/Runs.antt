@@ -5,7 +5,6 @@ use mathlib.Core.Option.{none, some}
 use mathlib.Core.Path.{_≡_, refl}
 use lib.Dec.{eqb}
 use Rattle.agreement.specs.Riscv.Code.{Code, runAt}
-use Rattle.agreement.specs.Riscv.Immediates as Manual
 
 -- halfwords at 2^64 - 4, 2^64 - 2, 0, 2, 3 and 6, and none elsewhere
 abbrev around : Code
