@@ -318,6 +318,61 @@ fn numbers_and_texts() {
     assert_eq!(error.to_string(), "the store has no room for the code");
 }
 
+/// A reply as the archive's functions give it to C.
+#[repr(C)]
+struct Reply {
+    number: u64,
+    first: u64,
+    second: u64,
+}
+
+extern "C" {
+    fn emuko_translate(
+        start: u64,
+        limit: u32,
+        halfwords: *const u16,
+        halfwords_len: usize,
+        helper16: u64,
+        helper_mem: u64,
+        out: *mut u8,
+        out_len: usize,
+    ) -> Reply;
+    fn emuko_place(
+        code: *const u8,
+        code_len: usize,
+        store: *mut u8,
+        store_len: usize,
+        used: usize,
+    ) -> Reply;
+}
+
+/// Values that a refusal does not have are 0, which only C sees: the crate's refusals have no place for them.
+#[test]
+fn values_that_a_reply_lacks() {
+    let mut out = [0; GREATEST_BLOCK];
+    let values = |reply: Reply| (reply.number, reply.first, reply.second);
+    let mut translated = |start: u64, limit: u32, run: &[u16], room: usize| {
+        let (halfwords, out) = (run.as_ptr(), out.as_mut_ptr());
+        // SAFETY: The lengths are those of the slices, or less.
+        values(unsafe { emuko_translate(start, limit, halfwords, run.len(), 0, 0, out, room) })
+    };
+    assert_eq!(translated(START, 0, &ADDI, 0), (1, 0, 0));
+    assert_eq!(translated(START + 1, 1, &ADDI, 0), (2, START + 1, 0));
+    assert_eq!(translated(START, 1, &[], 0), (3, 0, 0));
+    assert_eq!(translated(START, 1, &ADDI[..1], 0), (3, 1, 0));
+    assert_eq!(translated(START, 1, &[0x0073, 0x0000], 0), (4, 0x73, 0));
+    assert_eq!(translated(START, 1, &ADDI, 2242), (5, 0, 0));
+    assert_eq!(translated(START, 64, &ADDI, 2243), (0, 88, 1));
+    let (code, mut store) = ([7; 4], [0; 8]);
+    let mut placed = |used: usize| {
+        // SAFETY: As above.
+        values(unsafe { emuko_place(code.as_ptr(), 4, store.as_mut_ptr(), 8, used) })
+    };
+    assert_eq!(placed(9), (6, 0, 0));
+    assert_eq!(placed(5), (7, 0, 0));
+    assert_eq!(placed(1), (0, 4, 8));
+}
+
 /// The numbers of the kinds, and a word of each.
 #[test]
 fn kinds_of_words() {
