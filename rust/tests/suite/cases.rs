@@ -1,5 +1,6 @@
 //! Document 01's cases, one by one.
 
+use crate::archive::{emuko_place, emuko_translate, emuko_word_kind, Reply};
 use crate::words::halves;
 use emuko_x64_blocks::{
     place, translate, word_kind, Helpers, PlaceRefusal, Refusal, Request, WordKind, GREATEST_BLOCK,
@@ -318,34 +319,6 @@ fn numbers_and_texts() {
     assert_eq!(error.to_string(), "the store has no room for the code");
 }
 
-/// A reply as the archive's functions give it to C.
-#[repr(C)]
-struct Reply {
-    number: u64,
-    first: u64,
-    second: u64,
-}
-
-extern "C" {
-    fn emuko_translate(
-        start: u64,
-        limit: u32,
-        halfwords: *const u16,
-        halfwords_len: usize,
-        helper16: u64,
-        helper_mem: u64,
-        out: *mut u8,
-        out_len: usize,
-    ) -> Reply;
-    fn emuko_place(
-        code: *const u8,
-        code_len: usize,
-        store: *mut u8,
-        store_len: usize,
-        used: usize,
-    ) -> Reply;
-}
-
 /// Values that a refusal does not have are 0, which only C sees: the crate's refusals have no place for them.
 #[test]
 fn values_that_a_reply_lacks() {
@@ -371,6 +344,8 @@ fn values_that_a_reply_lacks() {
     assert_eq!(placed(9), (6, 0, 0));
     assert_eq!(placed(5), (7, 0, 0));
     assert_eq!(placed(1), (0, 4, 8));
+    // SAFETY: Any number may be passed.
+    assert_eq!(unsafe { emuko_word_kind(0x0000_100F) }, 2);
 }
 
 /// The numbers of the kinds, and a word of each.

@@ -3,6 +3,9 @@
 //! the papers say of the repository. Seeds are fixed.
 
 mod against_original;
+// The archive as C sees it: the crate's own declarations.
+#[path = "../../src/archive.rs"]
+mod archive;
 mod cases;
 #[cfg(all(target_arch = "x86_64", target_os = "linux"))]
 mod entered;
