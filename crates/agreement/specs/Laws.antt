@@ -1,7 +1,7 @@
 -- Statements that are proved beside the agreement, a theorem of the same name in small letters for each.
 use mathlib.Core.Path.{_≡_}
 use mathlib.Core.Bool.{cond}
-use mathlib.Core.List.{List, _++_}
+use mathlib.Core.List.{List, [], _∷_, _++_}
 use mathlib.Core.Logic.{_≢_}
 use mathlib.Core.Option.{some}
 use Prim.Native.Nat.{ℕ, zero, suc, min, _+_, _*_, _%_, _^_, _≤_, _<_}
@@ -83,14 +83,18 @@ RunsAlike = (c d : Code) (pc n : ℕ) → pc < 2 ^ 64
     → ((k : ℕ) → k < n → c ((pc + 2 * k) % 2 ^ 64) ≡ d ((pc + 2 * k) % 2 ^ 64))
     → runAt c pc n ≡ runAt d pc n
 
--- Every run that fits into the address space is the run of some code: the premise on code leaves no run out.
+-- Every run of halfwords that fits into the address space is the run of some code: the premise on code leaves no run out.
+
+unfoldable pub Halfwords : List ℕ → Type 0
+Halfwords [] = Unit
+Halfwords (h ∷ hs) = (h < 2 ^ 16) × Halfwords hs
 
 pub record Held (pc : ℕ) (hs : List ℕ) : Type 0 where
   pub code : Code
   pub run : runAt code pc (length hs) ≡ hs
 
 unfoldable pub RunsHeld : Type 0
-RunsHeld = (pc : ℕ) (hs : List ℕ) → pc < 2 ^ 64 → length hs ≤ 2 ^ 63 → Held pc hs
+RunsHeld = (pc : ℕ) (hs : List ℕ) → pc < 2 ^ 64 → length hs ≤ 2 ^ 63 → Halfwords hs → Held pc hs
 
 -- The immediates: decode.rs and the manual give one number for every 32-bit word.
 

@@ -11,7 +11,6 @@ use Rattle.agreement.specs.Riscv.Immediates as Manual
 use Rattle.agreement.specs.Riscv.Run.{GuestState, Stop.called, Stop.plain, jump, writeX}
 use Rattle.agreement.specs.Statement.Agreement.{Agrees, after, isRefused, start}
 use Rattle.agreement.specs.Statement.Machine.{Event, Turn, since}
-use Rattle.agreement.specs.Statement.Premises.{Halfwords}
 use Rattle.agreement.specs.X86.Form.{RAX, RDX}
 use Rattle.agreement.specs.X86.Memory.{put, read, write}
 use Rattle.agreement.specs.X86.State.{State}
@@ -62,22 +61,22 @@ allowed = record { above = omega arith; fits = omega arith; aligned = refl }
 pub old-meets : MeetsAt oldTurn 0x80000008
 old-meets =
     turnOf-meets 0x30008 oldCode (oldTurn .made) 1 0 0 0 0x80000008 allowed
-    (unfold words Halfwords in omega arith) (unfold words runAt in refl) (omega arith) (omega arith) (omega arith)
+    (unfold words runAt in refl) (omega arith) (omega arith) (omega arith)
 
 store-meets : MeetsAt storeTurn 0x80000000
 store-meets =
     turnOf-meets 0x30008 oldCode (storeTurn .made) 5 9 0x80000004 1 0x80000000 allowed
-    (unfold words Halfwords in omega arith) (unfold words runAt in refl) (omega arith) (omega arith) (omega arith)
+    (unfold words runAt in refl) (omega arith) (omega arith) (omega arith)
 
 fence-meets : MeetsAt fenceTurn 0x80000004
 fence-meets =
     turnOf-meets 0x30008 newCode (fenceTurn .made) 1 0 0 0 0x80000004 allowed
-    (unfold words Halfwords in omega arith) (unfold words runAt in refl) (omega arith) (omega arith) (omega arith)
+    (unfold words runAt in refl) (omega arith) (omega arith) (omega arith)
 
 new-meets : MeetsAt newTurn 0x80000008
 new-meets =
     turnOf-meets 0x30008 newCode (newTurn .made) 1 0 0 0 0x80000008 allowed
-    (unfold words Halfwords in omega arith) (unfold words runAt in refl) (omega arith) (omega arith) (omega arith)
+    (unfold words runAt in refl) (omega arith) (omega arith) (omega arith)
 
 -- the manual's states: at the start, after the first turn, after the store's helper, which was entered in u, and after FENCE.I
 abbrev pub n0 : GuestState

@@ -12,7 +12,7 @@ use Rattle.agreement.specs.Riscv.Code.{Code, runAt}
 use Rattle.agreement.specs.Translation.Replies.{Block, Reply.block, translate}
 use Rattle.agreement.specs.Statement.Agreement.{Agreement, Agrees, start}
 use Rattle.agreement.specs.Statement.Machine.{Turn, reply}
-use Rattle.agreement.specs.Statement.Premises.{Halfwords, Keeps, Layout}
+use Rattle.agreement.specs.Statement.Premises.{Keeps, Layout}
 use Rattle.agreement.specs.X86.Memory.{Memory, read, write}
 use Rattle.agreement.specs.X86.State.{State}
 use Rattle.agreement.proofs.Checks.Cases.{words}
@@ -96,10 +96,10 @@ no-longer t pc b e = by lengths
     by : Lengths → length (b .code) ≤ 2243
     by h = unfold Lengths in h pc (t .limit) (t .made) (t .helper16) (t .helperMem) (length (t .output)) b e .1
 
-pub turnOf-meets : (sp : ℕ) (g : Code) (hs : List ℕ) (r v rax rdx pc : ℕ) → Allowed sp → Halfwords hs → hs ≡ runAt g pc (length hs)
+pub turnOf-meets : (sp : ℕ) (g : Code) (hs : List ℕ) (r v rax rdx pc : ℕ) → Allowed sp → hs ≡ runAt g pc (length hs)
     → r < 32 → rax < 2 ^ 64 → rdx < 2 ^ 64 → MeetsAt (turnOf sp g hs (leaves r v rax rdx)) pc
-turnOf-meets sp g hs r v rax rdx pc s l un lr la ld = record {
-  typed = record { made = l; helper16 = omega arith; helperMem = omega arith; others = λ k h. omega arith };
+turnOf-meets sp g hs r v rax rdx pc s un lr la ld = record {
+  typed = record { helper16 = omega arith; helperMem = omega arith; others = λ k h. omega arith };
   unchanged = un;
   enterable = λ b rb e.
       let n : length (b .code) ≤ 2243 = no-longer (turnOf sp g hs (leaves r v rax rdx)) pc b e in
@@ -110,9 +110,9 @@ turnOf-meets sp g hs r v rax rdx pc s l un lr la ld = record {
 }
 
 refused-meets : (pc : ℕ) → MeetsAt refusedTurn pc
-unfolding Halfwords translate runAt
+unfolding translate runAt
 refused-meets pc = record {
-  typed = record { made = tt; helper16 = omega arith; helperMem = omega arith; others = λ k h. omega arith };
+  typed = record { helper16 = omega arith; helperMem = omega arith; others = λ k h. omega arith };
   unchanged = refl;
   enterable = λ b rb e. absurd (let z : _≡_ {A = ℕ} 0 1 = cc in omega arith);
 }
@@ -121,25 +121,25 @@ helper-meets : MeetsAt helperTurn firstPc
 helper-meets =
     turnOf-meets 0x30008 (helperTurn .code) helperRun 1 7 0x80000010 3 firstPc
     (record { above = omega arith; fits = omega arith; aligned = refl })
-    (unfold words Halfwords in omega arith) (unfold words runAt in refl) (omega arith) (omega arith) (omega arith)
+    (unfold words runAt in refl) (omega arith) (omega arith) (omega arith)
 
 plain-meets : MeetsAt plainTurn 0x80000010
 plain-meets =
     turnOf-meets 0x30018 (plainTurn .code) plainRun 1 0 0 0 0x80000010
     (record { above = omega arith; fits = omega arith; aligned = refl })
-    (unfold words Halfwords in omega arith) (unfold words runAt in refl) (omega arith) (omega arith) (omega arith)
+    (unfold words runAt in refl) (omega arith) (omega arith) (omega arith)
 
 halfword-meets : MeetsAt halfwordTurn 0x80000024
 halfword-meets =
     turnOf-meets 0xFFFFFFFFFFFFFFF8 (halfwordTurn .code) (0x4501 ∷ []) 10 9 0x80000031 1 0x80000024
     (record { above = omega arith; fits = omega arith; aligned = refl })
-    (unfold Halfwords in omega arith) (unfold runAt in refl) (omega arith) (omega arith) (omega arith)
+    (unfold runAt in refl) (omega arith) (omega arith) (omega arith)
 
 odd-meets : MeetsAt oddTurn 0x80000031
 odd-meets =
     turnOf-meets 0x30018 (oddTurn .code) plainRun 1 0 0 0 0x80000031
     (record { above = omega arith; fits = omega arith; aligned = refl })
-    (unfold words Halfwords in omega arith) (unfold words runAt in refl) (omega arith) (omega arith) (omega arith)
+    (unfold words runAt in refl) (omega arith) (omega arith) (omega arith)
 
 -- 3. The lists meet them along the manual's run, and the theorem is applied
 

@@ -8,9 +8,9 @@ use Prim.Native.Nat.{ℕ, zero, suc, _+_, _*_, _/_, _%_, _^_, _≤_, _<_}
 use native.Mathlib.Omega.{arith}
 use lib.Dec.{eqb}
 use lib.ListN.{length}
-use Rattle.agreement.specs.Riscv.Code.{Code, runAt}
+use Rattle.agreement.specs.Riscv.Code.{Code, front, runAt}
 use Rattle.agreement.specs.Riscv.Fields.{plus}
-use Rattle.agreement.specs.Laws.{RunsAlike, RunsHeld}
+use Rattle.agreement.specs.Laws.{Halfwords, RunsAlike, RunsHeld}
 use Rattle.agreement.proofs.Laws.Tests.{eqb-no, eqb-yes}
 
 -- the k-th address behind the next one is the k + 1st
@@ -29,7 +29,9 @@ alike : (c d : Code) (pc n : ℕ) → pc < 2 ^ 64
     → ((k : ℕ) → k < n → c ((pc + 2 * k) % 2 ^ 64) ≡ d ((pc + 2 * k) % 2 ^ 64)) → runAt c pc n ≡ runAt d pc n
 unfolding runAt
 alike c d pc zero low h = refl
-alike c d pc (suc n) low h = rw (first, runAt) (go (d pc) (alike c d (plus pc 2) n (omega arith) later))
+alike c d pc (suc n) low h =
+    ap (λ (o : Option ℕ). front o (runAt c (plus pc 2) n)) first
+    ∙ ap (front (d pc)) (alike c d (plus pc 2) n (omega arith) later)
   where
     first : c pc ≡ d pc
     first = let e : (pc + 2 * 0) % 2 ^ 64 ≡ pc = omega (arith, low) in rw e at (h 0 (omega arith))
@@ -37,11 +39,15 @@ alike c d pc (suc n) low h = rw (first, runAt) (go (d pc) (alike c d (plus pc 2)
     later : (k : ℕ) → k < n → c ((plus pc 2 + 2 * k) % 2 ^ 64) ≡ d ((plus pc 2 + 2 * k) % 2 ^ 64)
     later k l = rw (further pc k) (h (suc k) (omega (arith, l)))
 
-    go : (o : Option ℕ) → runAt c (plus pc 2) n ≡ runAt d (plus pc 2) n
-        → _≡_ {A = List ℕ} (elim o [ none ↦ [] | some h ↦ h ∷ runAt c (plus pc 2) n ])
-        (elim o [ none ↦ [] | some h ↦ h ∷ runAt d (plus pc 2) n ])
-    go none e = refl
-    go (some x) e = ap (x ∷_) e
+-- a run is made of halfwords, whatever the code
+pub run-halfwords : (c : Code) (pc n : ℕ) → Halfwords (runAt c pc n)
+unfolding runAt Halfwords
+run-halfwords c pc zero = tt
+run-halfwords c pc (suc n) = go (c pc) (run-halfwords c (plus pc 2) n)
+  where
+    go : (o : Option ℕ) → Halfwords (runAt c (plus pc 2) n) → Halfwords (front o (runAt c (plus pc 2) n))
+    go none r = tt
+    go (some h) r = (omega arith, r)
 
 pub runs-alike : RunsAlike
 unfolding RunsAlike
@@ -52,10 +58,10 @@ abbrev pub held : ℕ → List ℕ → Code
 held pc [] x = none
 held pc (h ∷ hs) x = cond (eqb x pc) (some h) (held (plus pc 2) hs x)
 
-pub held-run : (pc : ℕ) (hs : List ℕ) → pc < 2 ^ 64 → length hs ≤ 2 ^ 63 → runAt (held pc hs) pc (length hs) ≡ hs
-unfolding runAt
-held-run pc [] low l = refl
-held-run pc (h ∷ hs) low l = first (held-run (plus pc 2) hs (omega arith) (omega (arith, l)))
+held-run : (pc : ℕ) (hs : List ℕ) → pc < 2 ^ 64 → length hs ≤ 2 ^ 63 → Halfwords hs → runAt (held pc hs) pc (length hs) ≡ hs
+unfolding runAt Halfwords
+held-run pc [] low l t = refl
+held-run pc (h ∷ hs) low l t = first (held-run (plus pc 2) hs (omega arith) (omega (arith, l)) (t .1))
   where
     -- none of the addresses behind pc is pc
     behind : (k : ℕ) → k < length hs
@@ -65,9 +71,10 @@ held-run pc (h ∷ hs) low l = first (held-run (plus pc 2) hs (omega arith) (ome
 
     first : runAt (held (plus pc 2) hs) (plus pc 2) (length hs) ≡ hs → runAt (held pc (h ∷ hs)) pc (suc (length hs)) ≡ h ∷ hs
     first rest =
+        let e : h % 2 ^ 16 ≡ h = omega (arith, t .0) in
         rw (eqb-yes pc pc refl, runAt)
-        (ap (h ∷_) (alike (held pc (h ∷ hs)) (held (plus pc 2) hs) (plus pc 2) (length hs) (omega arith) behind ∙ rest))
+        (rw e (ap (h ∷_) (alike (held pc (h ∷ hs)) (held (plus pc 2) hs) (plus pc 2) (length hs) (omega arith) behind ∙ rest)))
 
 pub runs-held : RunsHeld
 unfolding RunsHeld
-runs-held pc hs low l = record { code = held pc hs; run = held-run pc hs low l }
+runs-held pc hs low l t = record { code = held pc hs; run = held-run pc hs low l t }

@@ -13,6 +13,7 @@ use Rattle.agreement.specs.Translation.Emit.{addCount, closing, opening,
 use Rattle.agreement.specs.Translation.Replies.{Block, Reply.block, blockOf, walked}
 use Rattle.agreement.specs.Translation.Walk.{End, Walked, counted, ending, helperAt, instrs}
 use Rattle.agreement.specs.Translation.Walk.End.{calls, goesOn, jumped}
+use Rattle.agreement.specs.Laws.{Halfwords}
 use Rattle.agreement.specs.Statement.Agreement.{At, Entered, Returns, feed, feedOf, helperOf, inReturn, inSaved, inSlots, isRefused}
 use Rattle.agreement.specs.Statement.Agreement.{leftBy, own}
 use Rattle.agreement.specs.Statement.Machine.{By, Call, RegisterBytes, Steps, Turn, Visit, Went, bytesAfter, enter, plusRdx, reply}
@@ -32,7 +33,7 @@ use Rattle.agreement.proofs.Host.Straight.{all-append, step-unlogged}
 use Rattle.agreement.proofs.Laws.Tests.{leb-yes}
 use Rattle.agreement.proofs.Theorem.MemoryAtEntry.{AllOk, fine-ok, laid, ok-append, overlay-in, overlay-out, slot-shift, small-bytes}
 use Rattle.agreement.proofs.Theorem.ManualRun.{Stays, stays, turn-called, turn-plain}
-use Rattle.agreement.proofs.Theorem.RefusedAlike.{Bounds, EndOk, walk-ok}
+use Rattle.agreement.proofs.Theorem.RefusedAlike.{Bounds, EndOk, made-halfwords, walk-ok}
 use Rattle.agreement.proofs.Words.Simulation.{Agree, agree}
 use Rattle.agreement.proofs.Words.Slots.{Slots}
 
@@ -223,8 +224,11 @@ module _ (t : Turn) (m : GuestState) (rb : RegisterBytes) (ty : Typed t) (un : U
   unfolding feedOf
   q-is = ap (λ (hs : List ℕ). reading limit (m .pc) hs (m .registers)) (sym un)
 
+  halfwords : Halfwords (t .made)
+  halfwords = made-halfwords t (m .pc) un
+
   bounds : Bounds limit p
-  bounds = walk-ok limit (m .pc) (t .made) low (ty .made)
+  bounds = walk-ok limit (m .pc) (t .made) low halfwords
 
   module _ (re : reply t (m .pc) ≡ block b) (rf : isRefused t m ≡ false) (en : Enterable t b rb) where
     ly : Layout t (length code)
@@ -235,7 +239,7 @@ module _ (t : Turn) (m : GuestState) (rb : RegisterBytes) (ty : Typed t) (un : U
 
     agrees : (s : State) → Slots (t .base) (m .registers) s → Agree (t .undefined) (t .base) (pl .b-fits) p q s
     agrees s h =
-        rw q-is (agree (t .undefined) (t .base) (pl .b-fits) limit (m .pc) (t .made) (m .registers) s (ty .made) h)
+        rw q-is (agree (t .undefined) (t .base) (pl .b-fits) limit (m .pc) (t .made) (m .registers) s halfwords h)
 
     -- a state with these slots, to read off what does not depend on the state
     abbrev some-state : State

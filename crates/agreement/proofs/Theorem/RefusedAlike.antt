@@ -1,7 +1,7 @@
 -- The table of replies and the manual's own reading of it refuse the same turns; bounds of a walk.
 use mathlib.Core.Bool.{Bool, cond, false, true}
 use mathlib.Core.List.{List, [], _∷_}
-use mathlib.Core.Path.{_∙_, _≡_, refl}
+use mathlib.Core.Path.{_∙_, _≡_, refl, subst, sym}
 use Prim.Native.Nat.{_%_, _<_, _^_, _≤_, suc, zero, ℕ}
 use native.Mathlib.Omega.{arith}
 use lib.Bits.{bitAnd}
@@ -20,7 +20,9 @@ use Rattle.agreement.specs.Translation.Replies.Refusal.{limitZero, missi
 use Rattle.agreement.specs.Translation.Replies.Reply.{block, refusal}
 use Rattle.agreement.specs.Translation.Walk.{End, End.calls, End.goesOn, End.jumped, Walked, emit, helps, stopsAt, walk}
 use Rattle.agreement.specs.Statement.Machine.{Turn, reply}
-use Rattle.agreement.specs.Statement.Premises.{Halfwords}
+use Rattle.agreement.specs.Statement.Premises.{Unchanged}
+use Rattle.agreement.specs.Laws.{Halfwords}
+use Rattle.agreement.proofs.Laws.Runs.{run-halfwords}
 use Rattle.agreement.proofs.Laws.Fields.{long-is, wordOf-is}
 use Rattle.agreement.proofs.Laws.Naming.{kind-is}
 use Rattle.agreement.specs.Translation.Decode32 as Decode32
@@ -78,6 +80,10 @@ pub data Replied (t : Turn) (pc : ℕ) : Type 0 where
   out : (r : Refusal) → reply t pc ≡ refusal r → refused (t .limit) pc (t .made) (length (t .output)) ≡ true → Replied t pc
   came : reply t pc ≡ block (blockOf (t .helper16) (t .helperMem) (walked pc (t .limit) (t .made)))
       → refused (t .limit) pc (t .made) (length (t .output)) ≡ false → Replied t pc
+
+-- a block is made of halfwords, since it is made from a run
+pub made-halfwords : (t : Turn) (pc : ℕ) → Unchanged t pc → Halfwords (t .made)
+made-halfwords t pc un = subst Halfwords (sym un) (run-halfwords (t .code) pc (t .reach))
 
 pub replied : (t : Turn) (pc : ℕ) → Halfwords (t .made) → Replied t pc
 replied t pc l = go (eqb (t .limit) 0) (eqb (pc % 2) 1) (ltb (length (t .output)) greatest) refl refl refl (first-is (t .made) l)

@@ -17,7 +17,7 @@ use Rattle.agreement.specs.X86.Memory.{read}
 use Rattle.agreement.specs.X86.State.{State}
 use Rattle.agreement.proofs.Theorem.Determined.{turned-once}
 use Rattle.agreement.proofs.Theorem.ManualRun.{turn-refused}
-use Rattle.agreement.proofs.Theorem.RefusedAlike.{Replied, Replied.came, Replied.out, replied}
+use Rattle.agreement.proofs.Theorem.RefusedAlike.{Replied, Replied.came, Replied.out, made-halfwords, replied}
 use Rattle.agreement.proofs.Theorem.OneTurn.{Done, entered-done}
 use Rattle.agreement.proofs.Theorem.Consequences.{WentHelped, WentPlainly, after-helper, after-plain, after-refused}
 use Rattle.agreement.proofs.Theorem.Consequences.{afterHelper, afterPlain, readAs}
@@ -78,7 +78,7 @@ entered t m rb d = record {
 pub led : (t : Turn) (m : GuestState) (rb : RegisterBytes) → Typed t → Unchanged t (m .pc)
     → ((b : Block) → reply t (m .pc) ≡ block b → Enterable t b rb)
     → m .pc < 2 ^ 64 → SlotsAre rb m → m .registers 0 ≡ 0 → Led t m rb
-led t m rb ty un en low sl z = go (replied t (m .pc) (ty .made))
+led t m rb ty un en low sl z = go (replied t (m .pc) (made-halfwords t (m .pc) un))
   where
     go : Replied t (m .pc) → Led t m rb
     go (out r e f) = skipped t m rb r e (rw un at f) low sl z

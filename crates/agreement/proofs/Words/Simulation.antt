@@ -15,7 +15,7 @@ use Rattle.agreement.specs.Translation.Emit.{codeBranch, codeConst, code
 use Rattle.agreement.specs.Translation.Kind.{kind}
 use Rattle.agreement.specs.Translation.Walk.{End, Walked, before, emit, helps, jumps, notTakenAt, stopsAt, stopsBehind, walk}
 use Rattle.agreement.specs.Translation.Walk.End.{calls, goesOn, jumped}
-use Rattle.agreement.specs.Statement.Premises.{Halfwords}
+use Rattle.agreement.specs.Laws.{Halfwords}
 use Rattle.agreement.specs.X86.Execute.{exec}
 use Rattle.agreement.specs.X86.Form.{Instr, R10, R11, RAX}
 use Rattle.agreement.specs.X86.State.{Flags, State}

@@ -57,12 +57,7 @@ pub record Keeps (t : Turn) (n : ℕ) (u v : State) : Type 0 where
   pub rdx : v .regs RDX < 2 ^ 64
 
 -- the numbers of a turn are of their types
-unfoldable pub Halfwords : List ℕ → Type 0
-Halfwords [] = Unit
-Halfwords (h ∷ hs) = (h < 65536) × Halfwords hs
-
 pub record Typed (t : Turn) : Type 0 where
-  pub made : Halfwords (t .made)
   pub helper16 : t .helper16 < 2 ^ 64
   pub helperMem : t .helperMem < 2 ^ 64
   pub others : (k : ℕ) → k < 16 → t .others k < 2 ^ 64
