@@ -5,4 +5,5 @@ pub mod OneTurn
 pub mod Determined
 pub mod Consequences
 pub mod TurnByTurn
+pub mod AlongTheRun
 pub mod Agreement

@@ -20,7 +20,7 @@ use Rattle.agreement.proofs.Checks.ExampleStates.{reads-a-turn}
 use Rattle.agreement.proofs.Checks.PremisesMet.{Allowed, applied, turnOf-meets}
 use Rattle.agreement.proofs.Laws.Runs.{held}
 use Rattle.agreement.proofs.Theorem.Consequences.{WentPlainly, afterHelper, afterPlain, readAs}
-use Rattle.agreement.proofs.Theorem.TurnByTurn.{Ends, MeetsAt, Met, ends-helped, ends-here, ends-plain, met-helped, met-plain}
+use Rattle.agreement.proofs.Theorem.AlongTheRun.{Ends, MeetsAt, Met, ends-helped, ends-here, ends-plain, met-helped, met-plain}
 
 -- 1. The guest: SW x2, 0(x3); FENCE.I; ADDI x1, x0, 5; JAL x0, -12, at 0x80000000. The store writes ADDI x1, x0, 7 over the third word
 

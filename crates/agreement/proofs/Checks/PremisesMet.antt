@@ -25,7 +25,7 @@ use Rattle.agreement.proofs.Laws.Length.{lengths}
 use Rattle.agreement.proofs.Theorem.Agreement.{agreement}
 use Rattle.agreement.proofs.Theorem.Consequences.{afterHelper}
 use Rattle.agreement.proofs.Theorem.OneTurn.{between, or-left, or-right}
-use Rattle.agreement.proofs.Theorem.TurnByTurn.{MeetsAt, Met, met, met-helped, met-plain, met-refused}
+use Rattle.agreement.proofs.Theorem.AlongTheRun.{MeetsAt, Met, met, met-helped, met-plain, met-refused}
 
 -- 1. The layout and the helpers keep document 01's premises
 

@@ -21,7 +21,7 @@ use Rattle.agreement.proofs.Checks.Example.{zeros}
 use Rattle.agreement.proofs.Checks.ExampleStates.{reads-a-turn}
 use Rattle.agreement.proofs.Checks.PremisesMet.{applied}
 use Rattle.agreement.proofs.Theorem.Consequences.{afterPlain}
-use Rattle.agreement.proofs.Theorem.TurnByTurn.{Ends, Met, ends-here, ends-plain, met-plain}
+use Rattle.agreement.proofs.Theorem.AlongTheRun.{Ends, Met, ends-here, ends-plain, met-plain}
 use Rattle.agreement.proofs.Checks.CodeChanges.{n0, newCode, old-meets, old-plain, old-x1, oldTurn}
 
 -- the same turn, the code being another

@@ -17,7 +17,7 @@ use Rattle.agreement.proofs.Checks.ExampleStates.{third-taken}
 use Rattle.agreement.proofs.Checks.PremisesMet.{five, three}
 use Rattle.agreement.proofs.Checks.WitnessEntries.{HalfwordSays, HelperSays, PlainSays, halfword-says, helper-says, plain-says}
 use Rattle.agreement.proofs.Theorem.Consequences.{WentHelped, WentPlainly, afterHelper, refused-x0}
-use Rattle.agreement.proofs.Theorem.TurnByTurn.{Ends, ends-helped, ends-here, ends-plain, ends-refused}
+use Rattle.agreement.proofs.Theorem.AlongTheRun.{Ends, ends-helped, ends-here, ends-plain, ends-refused}
 
 -- 1. The list of three: the second turn leads from m0 to m2, by a helper that was entered in `inside`, and the third on to m3
 
