@@ -39,6 +39,8 @@ import sys
 import tempfile
 import time
 
+from replies import is_fence_i
+
 ROOT = os.path.dirname(os.path.dirname(os.path.abspath(__file__)))
 TRANSLATE = os.path.join(ROOT, "target", "bin", "translate")
 REPLAY = os.path.join(ROOT, "target", "bin", "replay")
@@ -477,10 +479,6 @@ KEPT_REGISTERS = (ADDRESS, STORED, LEFT)
 
 def destination(word):
     return word >> 7 & 31
-
-
-def is_fence_i(word):
-    return word & 0x7F == 0x0F and word >> 12 & 7 == 1
 
 
 def is_store(word):

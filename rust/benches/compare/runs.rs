@@ -17,32 +17,34 @@ pub fn halves(words: &[u32]) -> Vec<u16> {
     words.iter().flat_map(|word| words::halves(*word)).collect()
 }
 
+/// What the mixes are made of.
+const UNIT: [u32; 16] = [
+    0x0050_0093, // ADDI x1, x0, 5
+    0x0020_81B3, // ADD x3, x1, x2
+    0x4030_8233, // SUB x4, x1, x3
+    0x0041_F2B3, // AND x5, x3, x4
+    0x00A2_E313, // ORI x6, x5, 10
+    0x00C3_1393, // SLLI x7, x6, 12
+    0x0073_D413, // SRLI x8, x7, 7
+    0x1234_5537, // LUI x10, 0x12345
+    0x0000_0597, // AUIPC x11, 0
+    0x0015_861B, // ADDIW x12, x11, 1
+    0x00C5_063B, // ADDW x12, x10, x12
+    0x00B6_2733, // SLT x14, x12, x11
+    0x02E7_87B3, // MUL x15, x15, x14
+    0x0FF7_F813, // ANDI x16, x15, 255
+    0x0018_3893, // SLTIU x17, x16, 1
+    0x0000_000F, // FENCE
+];
+
 pub fn cases() -> Vec<Case> {
-    let unit = [
-        0x0050_0093, // ADDI x1, x0, 5
-        0x0020_81B3, // ADD x3, x1, x2
-        0x4030_8233, // SUB x4, x1, x3
-        0x0041_F2B3, // AND x5, x3, x4
-        0x00A2_E313, // ORI x6, x5, 10
-        0x00C3_1393, // SLLI x7, x6, 12
-        0x0073_D413, // SRLI x8, x7, 7
-        0x1234_5537, // LUI x10, 0x12345
-        0x0000_0597, // AUIPC x11, 0
-        0x0015_861B, // ADDIW x12, x11, 1
-        0x00C5_063B, // ADDW x12, x10, x12
-        0x00B6_2733, // SLT x14, x12, x11
-        0x02E7_87B3, // MUL x15, x15, x14
-        0x0FF7_F813, // ANDI x16, x15, 255
-        0x0018_3893, // SLTIU x17, x16, 1
-        0x0000_000F, // FENCE
-    ];
     let bne = 0xFE20_9CE3; // BNE x1, x2, -8
     let ld = 0x0000_B083; // LD x1, 0(x1)
     let fence_i = 0x0000_100F; // with nothing behind it, which the original would take into its block
     let mulh = 0x0220_91B3; // MULH x3, x1, x2
-    let mut long = unit.repeat(4);
+    let mut long = UNIT.repeat(4);
     long[63] = bne;
-    let mut short = unit.to_vec();
+    let mut short = UNIT.to_vec();
     short[15] = bne;
     let case = |name, words: &[u32], count| Case {
         name,
@@ -54,10 +56,10 @@ pub fn cases() -> Vec<Case> {
         case("64-word mix", &long, 64),
         case("16-word mix", &short, 16),
         case("a load alone, by a helper", &[ld], 1),
-        case("8 words and a load", &[&unit[..8], &[ld]].concat(), 9),
+        case("8 words and a load", &[&UNIT[..8], &[ld]].concat(), 9),
         case(
             "15 words and FENCE.I",
-            &[&unit[..15], &[fence_i]].concat(),
+            &[&UNIT[..15], &[fence_i]].concat(),
             16,
         ),
         case("MULH first, refused", &[mulh], 0),

@@ -154,6 +154,28 @@ fn random_requests_second_seed() {
     random_requests(2, 1_000_000);
 }
 
+/// So many straight words, then an end by its number: the first four count.
+fn run_to(r: &mut Random, words: u32, end: u32) -> Vec<u16> {
+    let mut run = Vec::new();
+    for _ in 0..words {
+        run.extend(words::halves(words::straight(r)));
+    }
+    match end {
+        0 => run.extend(words::halves(words::ending(r))),
+        1 => run.extend(words::halves(words::memory(r))),
+        2 => run.push(words::halfword(r)),
+        // A straight word behind it, which is no more of the block.
+        3 => {
+            run.extend(words::halves(words::fence_i(r)));
+            run.extend(words::halves(words::straight(r)));
+        }
+        4 => run.extend(words::halves(words::not_taken(r))),
+        5 => run.push(0x0093),
+        _ => {}
+    }
+    run
+}
+
 /// Every end at every count: n straight words, then each sort of end, under limits below, at and above what is there.
 #[test]
 fn every_end_at_every_count() {
@@ -163,27 +185,11 @@ fn every_end_at_every_count() {
     for n in 0..=65 {
         for end in 0..7 {
             for limit in [n.max(1) - 1, n, n + 1, 64, 65] {
-                let mut run = Vec::new();
-                for _ in 0..n {
-                    run.extend(words::halves(words::straight(&mut r)));
-                }
-                match end {
-                    0 => run.extend(words::halves(words::ending(&mut r))),
-                    1 => run.extend(words::halves(words::memory(&mut r))),
-                    2 => run.push(words::halfword(&mut r)),
-                    // Straight words behind it, which are no more of the block.
-                    3 => {
-                        run.extend(words::halves(words::fence_i(&mut r)));
-                        run.extend(words::halves(words::straight(&mut r)));
-                    }
-                    4 => run.extend(words::halves(words::not_taken(&mut r))),
-                    5 => run.push(0x0093),
-                    _ => {}
-                }
+                let halfwords = run_to(&mut r, n, end);
                 let wanted = Wanted {
                     start: requests::start(&mut r) & !1,
                     limit,
-                    halfwords: run,
+                    halfwords,
                     skipped: 0,
                     helpers: Default::default(),
                     output: GREATEST_BLOCK,

@@ -574,6 +574,22 @@ fn a_loop() {
     assert_eq!((count, entries), (2 + 3 * 100, 100));
 }
 
+/// Straight words with FENCE.I among them, and mostly a jump at the end.
+fn run_with_fences(r: &mut Random) -> Vec<u16> {
+    let mut run = Vec::new();
+    for _ in 0..1 + r.below(40) {
+        let word = match r.below(8) {
+            0 => words::fence_i(r),
+            _ => words::straight(r),
+        };
+        run.extend(words::halves(word));
+    }
+    if r.percent(70) {
+        run.extend(words::halves(words::jump(r)));
+    }
+    run
+}
+
 /// The original's block goes on behind a FENCE.I. Where it ends, ours have come by several entries, with the same registers, pc and sum of
 /// counts.
 #[test]
@@ -584,17 +600,7 @@ fn where_the_original_ends() {
     let mut r = Random::new(134);
     let mut entries = 0;
     for _ in 0..5_000 {
-        let mut run = Vec::new();
-        for _ in 0..1 + r.below(40) {
-            let word = match r.below(8) {
-                0 => words::fence_i(&mut r),
-                _ => words::straight(&mut r),
-            };
-            run.extend(words::halves(word));
-        }
-        if r.percent(70) {
-            run.extend(words::halves(words::jump(&mut r)));
-        }
+        let run = run_with_fences(&mut r);
         let mut x = [0; 32];
         for register in &mut x[1..] {
             *register = value(&mut r);

@@ -16,6 +16,16 @@ fn fetched(run: &mut Run, request: &Request) -> (Vec<u64>, Result<(), u64>) {
     (asked, result)
 }
 
+/// None is asked for behind a FENCE.I; whether one was what ended the fetching of a longer run.
+fn ended_by_fence_i(request: &Request, asked: usize) -> bool {
+    if words_to_fence_i(request.halfwords).is_none() {
+        return false;
+    }
+    let until = cut(request.halfwords).len();
+    assert!(asked <= until, "{request:x?}");
+    asked == until && until < request.halfwords.len()
+}
+
 #[test]
 fn translated_as_the_whole() {
     let mut r = Random::new(45);
@@ -30,12 +40,7 @@ fn translated_as_the_whole() {
         let (asked, result) = fetched(&mut run, &request);
         // One after the other from the start on, each once.
         assert!(asked.iter().copied().eq(0..asked.len() as u64));
-        // None behind a FENCE.I.
-        if words_to_fence_i(request.halfwords).is_some() {
-            let until = cut(request.halfwords).len();
-            assert!(asked.len() <= until, "{request:x?}");
-            by_fence_i += (asked.len() == until && until < request.halfwords.len()) as u32;
-        }
+        by_fence_i += ended_by_fence_i(&request, asked.len()) as u32;
         match result {
             Err(index) => {
                 let refusal = Refusal::MissingHalfword(index as u8);
