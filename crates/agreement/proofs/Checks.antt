@@ -1,6 +1,7 @@
 pub mod Cases
 pub mod CasesHold
 pub mod Vectors
+pub mod Values
 pub mod Reached
 pub mod Needed
 pub mod Placing
@@ -16,4 +17,5 @@ pub mod WitnessEntries
 pub mod Witness
 pub mod Runs
 pub mod CodeChanges
+pub mod Dividing
 pub mod StaleBlock

@@ -1,6 +1,8 @@
 pub mod Tests
 pub mod Values
 pub mod Width
+pub mod Signed
+pub mod Integers
 pub mod Compare
 pub mod Fields
 pub mod Matches

@@ -4,4 +4,7 @@ pub mod OpImm
 pub mod Jumps
 pub mod Tame
 pub mod Fit
+pub mod Guards
+pub mod Division
 pub mod Simulation
+pub mod Undivided

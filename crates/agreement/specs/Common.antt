@@ -1,9 +1,9 @@
 -- What the translator and the manual's run share: two numbers of document 01, and a name for each of the two helpers.
 use Prim.Native.Nat.{ℕ}
 
--- document 01, "src/hart/jit_amd64.rs" and number 5: the greatest length of a block, the least output that is accepted
+-- number 5 (request Q-2): the greatest length of a block, the least output that is accepted; 67 and 64 times the 63 of DIVW
 abbrev pub greatest : ℕ
-greatest = 2243
+greatest = 4099
 
 -- document 01, "The manual's run in demand 3": at most 64 instructions to a turn (the Rust's `max_steps.min(64)`)
 abbrev pub mostSteps : ℕ

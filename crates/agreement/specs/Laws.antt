@@ -1,18 +1,20 @@
 -- Statements that are proved beside the agreement, a theorem of the same name in small letters for each.
 use mathlib.Core.Path.{_≡_}
-use mathlib.Core.Bool.{cond}
+use mathlib.Core.Bool.{false, cond}
 use mathlib.Core.List.{List, [], _∷_, _++_}
 use mathlib.Core.Logic.{_≢_}
 use mathlib.Core.Option.{some}
 use Prim.Native.Nat.{ℕ, zero, suc, min, _+_, _*_, _%_, _^_, _≤_, _<_}
 use lib.ListN.{length, take, drop}
 use lib.Dec.{ltb, eqb}
-use lib.Signed.{ltZ}
+use lib.IntN.{ℤ, ℤ.pos, natAbs, _+ℤ_, _*ℤ_}
+use lib.Signed.{ltZ, nonNeg}
 use Rattle.agreement.specs.Common.{greatest, mostSteps, Helper.forAccess}
 use Rattle.agreement.specs.Riscv.Code.{Code, runAt}
 use Rattle.agreement.specs.Riscv.Fields.{opcode, funct3}
 use Rattle.agreement.specs.Riscv.Immediates as Manual
 use Rattle.agreement.specs.Riscv.Instruction.{Instruction, Instruction.JALR, Instruction.other, signed, shiftRightArithmetic, named}
+use Rattle.agreement.specs.Riscv.Instruction.{bitsOf, upperHalf, quotientU, remainderU, overflows, quotient, remainder}
 use Rattle.agreement.specs.Riscv.Run.{chosen, taken}
 use Rattle.agreement.specs.X86.Form.{Instr, Ok, Shift.sar, Cc.B, Cc.E, Cc.L}
 use Rattle.agreement.specs.X86.Encode.{encode}
@@ -130,6 +132,48 @@ ComparesByFlags = (k a b : ℕ) → a < 2 ^ suc k → b < 2 ^ suc k
     × (holds B (subFlags (suc k) a b) ≡ ltb a b)
     × (holds E (subFlags (suc k) a b) ≡ eqb a b)
 
+-- Two's complement, product and division against the integers. Manual and host, each in its own file, have one formula for a number's
+-- integer and for an integer's bits, and the kit's division of integers: what is shown here of the manual's holds of both.
+
+-- a number of suc k bits is the integer itself or, where its top bit is set, 2^(suc k) more than it
+pub record StandsFor (k a : ℕ) : Type 0 where
+  pub low : a < 2 ^ k → signed (suc k) a ≡ pos a
+  pub high : 2 ^ k ≤ a → signed (suc k) a +ℤ pos (2 ^ suc k) ≡ pos a
+
+unfoldable pub StandForIntegers : Type 0
+StandForIntegers = (k a : ℕ) → a < 2 ^ suc k → StandsFor k a
+
+-- an integer's n bits differ from it by a multiple of 2^n
+pub record BitsOf (n : ℕ) (z : ℤ) : Type 0 where
+  pub below : bitsOf n z < 2 ^ n
+  pub times : ℤ
+  pub apart : z ≡ pos (bitsOf n z) +ℤ times *ℤ pos (2 ^ n)
+
+unfoldable pub IntegersHaveBits : Type 0
+IntegersHaveBits = (n : ℕ) (z : ℤ) → BitsOf n z
+
+-- the upper half of an integer's 2n bits stands above its n bits
+unfoldable pub UpperHalves : Type 0
+UpperHalves = (n : ℕ) (z : ℤ) → bitsOf (2 * n) z ≡ upperHalf n z * 2 ^ n + bitsOf n z
+
+-- "dividend = divisor × quotient + remainder" (M, "Division Operations"). The remainder is less than the divisor in magnitude and does not
+-- have the other sign than the dividend: this is 'rounded towards zero', and leaves one quotient and one remainder
+pub record Divides (n a b : ℕ) : Type 0 where
+  pub whole : signed n a ≡ signed n b *ℤ signed n (quotient n a b) +ℤ signed n (remainder n a b)
+  pub less : natAbs (signed n (remainder n a b)) < natAbs (signed n b)
+  pub sign : signed n (remainder n a b) ≢ pos 0 → nonNeg (signed n (remainder n a b)) ≡ nonNeg (signed n a)
+
+pub record DividesU (n a b : ℕ) : Type 0 where
+  pub whole : a ≡ b * quotientU n a b + remainderU n a b
+  pub less : remainderU n a b < b
+
+-- but for the manual's two exceptions, division by zero and the signed overflow
+unfoldable pub DivideTowardZero : Type 0
+DivideTowardZero = (k a b : ℕ) → a < 2 ^ suc k → b < 2 ^ suc k → b ≢ 0 → overflows (suc k) a b ≡ false → Divides (suc k) a b
+
+unfoldable pub DivideUnsigned : Type 0
+DivideUnsigned = (n a b : ℕ) → b ≢ 0 → DividesU n a b
+
 -- Stretches without CALL and RET, a relation in the statement, are runs of the function `steps`.
 
 unfoldable pub StepsAlike : Type 0
@@ -146,7 +190,7 @@ pub record LeftInOutput (b : Block) (out : List ℕ) : Type 0 where
 unfoldable pub OutputsBlock : Type 0
 OutputsBlock = (b : Block) (out : List ℕ) → length (b .code) ≤ length out → LeftInOutput b out
 
--- No block is shorter than 67 or longer than 2,243 bytes, and both are reached.
+-- No block is shorter than 67 or longer than 4,099 bytes, and both are reached.
 
 unfoldable pub Lengths : Type 0
 Lengths = (start limit : ℕ) (hs : List ℕ) (helper16 helperMem room : ℕ) (b : Block)
@@ -157,8 +201,8 @@ pub record Reaches (n : ℕ) : Type 0 where
   pub limit : ℕ
   pub halfwords : List ℕ
   pub result : Block
-  pub reply : translate start limit halfwords 0 0 2243 ≡ block result
+  pub reply : translate start limit halfwords 0 0 4099 ≡ block result
   pub long : length (result .code) ≡ n
 
 unfoldable pub BothReached : Type 0
-BothReached = Reaches 67 × Reaches 2243
+BothReached = Reaches 67 × Reaches 4099

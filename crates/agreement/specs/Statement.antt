@@ -1,3 +1,4 @@
 pub mod Machine
 pub mod Premises
+pub mod Steps
 pub mod Agreement

@@ -27,10 +27,12 @@ use Rattle.agreement.proofs.Block.Stages.{came-back, go-on, leave, way-
 use Rattle.agreement.proofs.Host.Fetching.{fetch, one}
 use Rattle.agreement.proofs.Host.Straight.{Fine, append-nil, bytes-append, run}
 use Rattle.agreement.proofs.Laws.Tests.{leb-no, of-true}
-use Rattle.agreement.proofs.Words.Fit.{Fit, fit-nil}
+use Rattle.agreement.proofs.Words.Fit.{Fit, fit-nil, leads-straight}
 use Rattle.agreement.proofs.Words.Simulation.{Agree, Next}
 use Rattle.agreement.proofs.Words.Slots.{Slots}
 use Rattle.agreement.proofs.Words.Tame.{AllTame, Tame}
+use Rattle.agreement.proofs.Host.Paths.{jumpless-left, jumpless-right, path-steps}
+use Rattle.agreement.proofs.Host.Jumpless.{StepsThrough, isJump, jumpless}
 
 -- 1. The bytes and the number of instructions of each end
 
@@ -157,8 +159,10 @@ module _ (undefined : State → Flags) (ok : Permissions) (P : ℕ → Bool) (b 
 
   -- opening and words
   record Front (q : Read) (s : State) : Type 0 where
+    n : ℕ
     t : State
-    way : Way undefined ok P s t (13 + length (part .code))
+    way : Way undefined ok P s t (13 + n)
+    through : StepsThrough (part .code) n
     mid : Mid ok b c p code s (q .registers) (length pre) t
     next : Next (part .end) (q .pc) (q .stop) t
     same : part .added ≡ q .added
@@ -169,15 +173,30 @@ module _ (undefined : State → Flags) (ok : Permissions) (P : ℕ → Bool) (b 
       let e = begin undefined ok P b c p code pl x (bytes (part .code) ++ bytes (tail (part .end))) s whole h in
       let s0 : State = run undefined opening s in
       let a : Agree undefined b (pl .b-fits) part q s0 = f s0 (e .1 .slots) in
-      let w = go-on undefined ok P b c p code pl (part .code) (bytes opening) (bytes (tail (part .end))) s s0 x (q .registers)
-      whole (a .fit) (e .1) (a .slots) in
+      let w = go-on undefined ok P b c p code pl (part .code) (bytes opening) (bytes (tail (part .end))) s s0 (a .t) (a .n) x (q .registers)
+      whole (a .leads) (e .1) (a .slots) in
       record {
-        t = run undefined (part .code) s0;
-        way = way-append undefined ok P s s0 _ 13 (length (part .code)) (e .0) (w .0);
+        n = a .n;
+        t = a .t;
+        way = way-append undefined ok P s s0 (a .t) 13 (a .n) (e .0) (w .0);
+        through = path-steps undefined (part .code) s0 (a .t) (a .n) (a .leads .path);
         mid = w .1;
         next = a .next;
         same = a .same;
       }
+
+  -- the words' steps, with 13 before them and j behind
+  paced : (n j k : ℕ) → StepsThrough (part .code) n → length (instrs h1 h2 part) ≡ 13 + (length (part .code) + j) → k ≡ 13 + (n + j)
+      → StepsThrough (instrs h1 h2 part) k
+  paced n j k h l e = record {
+    most = rw (l, e) (omega (arith, h .most));
+    exact = λ z. rw (l, e) (omega (arith, h .exact (only-words z)));
+  }
+    where
+      only-words : jumpless (instrs h1 h2 part) ≡ true → jumpless (part .code) ≡ true
+      only-words z =
+          jumpless-left (part .code) (tail (part .end))
+          (jumpless-right opening (part .code ++ tail (part .end)) (unfold instrs in z))
 
   -- 4. Without a helper
 
@@ -193,7 +212,7 @@ module _ (undefined : State → Flags) (ok : Permissions) (P : ℕ → Bool) (b 
     pub rax : w .regs RAX ≡ q .pc
     pub rdx : w .regs RDX ≡ q .added
     pub slots : (r : ℕ) → r < 32 → read 8 (w .mem) (b + 8 * r) ≡ q .registers r
-    pub steps : suc n ≡ length (instrs h1 h2 part)
+    pub steps : StepsThrough (instrs h1 h2 part) (suc n)
 
   closes : (is : List Instr) (q : Read) (s : State) (f : Front q s) → code ≡ pre ++ (bytes is ++ (bytes closing ++ encode ret)) → Fit is
       → Set b (q .registers) (q .pc) (q .added) (run undefined is (f .t))
@@ -202,13 +221,14 @@ module _ (undefined : State → Flags) (ok : Permissions) (P : ℕ → Bool) (b 
       let t : State = f .t in
       let v : State = run undefined is t in
       let end : List ℕ = bytes closing ++ encode ret in
-      let w = go-on undefined ok P b c p code pl is pre end s t (q .registers) (q .registers) z ft (f .mid) (st .slots) in
+      let w = go-on undefined ok P b c p code pl is pre end s t v (length is) (q .registers) (q .registers) z
+      (leads-straight undefined is t ft) (f .mid) (st .slots) in
       let l = leave undefined ok P b c p code pl (q .registers) (pre ++ bytes is) s v (z ∙ sym (append-assoc pre (bytes is) end)) (w .1) in
       record {
         u = l .u;
         t = l .t;
-        n = 13 + length (part .code) + (length is + 7);
-        way = way-append undefined ok P s t (l .u) (13 + length (part .code)) (length is + 7) (f .way)
+        n = 13 + f .n + (length is + 7);
+        way = way-append undefined ok P s t (l .u) (13 + f .n) (length is + 7) (f .way)
             (way-append undefined ok P t v (l .u) (length is) 7 (w .0) (l .way));
         fetch = l .fetch;
         does = l .does;
@@ -217,7 +237,7 @@ module _ (undefined : State → Flags) (ok : Permissions) (P : ℕ → Bool) (b 
         rax = st .rax;
         rdx = st .rdx;
         slots = st .slots .slots;
-        steps = rw k (omega arith);
+        steps = paced (f .n) (length is + 8) _ (f .through) k (omega arith);
       }
 
   next-at : (q : Read) (s : State) (f : Front q s) (e : End) → part .end ≡ e → Next e (q .pc) (q .stop) (f .t)
@@ -274,7 +294,7 @@ module _ (undefined : State → Flags) (ok : Permissions) (P : ℕ → Bool) (b 
     pub rax : w .regs RAX ≡ v .regs RAX
     pub rdx : w .regs RDX ≡ (v .regs RDX + q .added) % 2 ^ 64
     pub same : w .mem ≡ v .mem
-    pub steps : suc n + suc m ≡ length (instrs h1 h2 part)
+    pub steps : StepsThrough (instrs h1 h2 part) (suc n + suc m)
 
   pub record Calling (q : Read) (k : Helper) (i : ℕ) (e : State) : Type 0 where
     pub u : State
@@ -293,13 +313,13 @@ module _ (undefined : State → Flags) (ok : Permissions) (P : ℕ → Bool) (b 
     pub back : (v : State) → Returned c p code (one undefined callRax u) v → v .regs RDX < 2 ^ 64 → Back q n e v
 
   -- behind the CALL: the earlier count, the closing
-  returns : (q : Read) (s u v : State) (n : ℕ) (pre2 : List ℕ) (a k : ℕ) → n < 2 ^ 31 → v .regs RDX < 2 ^ 64
+  returns : (q : Read) (s u v : State) (n : ℕ) (pre2 : List ℕ) (a k j : ℕ) → StepsThrough (part .code) j → n < 2 ^ 31 → v .regs RDX < 2 ^ 64
       → code ≡ pre2 ++ (encode callRax ++ (bytes (addCount n) ++ (bytes closing ++ encode ret)))
       → Inside undefined ok P b c p code pl s (q .registers) (length pre2 + 2) a (one undefined callRax u)
       → Returned c p code (one undefined callRax u) v
       → n ≡ q .added → length (instrs h1 h2 part) ≡ 13 + (length (part .code) + (7 + (length (addCount n) + 8)))
-      → k ≡ 13 + length (part .code) + 6 → Back q k s v
-  returns q s u v n pre2 a k ln lv z ins rt sn cn kk =
+      → k ≡ 13 + j + 6 → Back q k s v
+  returns q s u v n pre2 a k j th ln lv z ins rt sn cn kk =
       let xv : Registers = λ r. read 8 (v .mem) (b + 8 * r) in
       let end : List ℕ = bytes closing ++ encode ret in
       let m : Mid ok b c p code s xv (length pre2 + 2) v =
@@ -310,7 +330,8 @@ module _ (undefined : State → Flags) (ok : Permissions) (P : ℕ → Bool) (b 
       let m3 : Mid ok b c p code s xv (length pre3) v = rw lk at m in
       let af = added undefined n v ln lv in
       let w : State = run undefined (addCount n) v in
-      let g2 = go-on undefined ok P b c p code pl (addCount n) pre3 end s v xv xv z3 (af .0) m3
+      let g2 = go-on undefined ok P b c p code pl (addCount n) pre3 end s v w (length (addCount n)) xv xv z3
+      (leads-straight undefined (addCount n) v (af .0)) m3
       (record { base = af .1 .rbx ∙ m3 .slots .base; slots = λ j l. rw (af .1 .same) }) in
       let l = leave undefined ok P b c p code pl xv (pre3 ++ bytes (addCount n)) s w
       (z3 ∙ sym (append-assoc pre3 (bytes (addCount n)) _)) (g2 .1) in
@@ -326,7 +347,7 @@ module _ (undefined : State → Flags) (ok : Permissions) (P : ℕ → Bool) (b 
         rax = af .1 .rax;
         rdx = af .1 .rdx ∙ rw sn;
         same = af .1 .same;
-        steps = rw (cn, kk) (omega arith);
+        steps = paced j (7 + (length (addCount n) + 8)) _ th cn (rw kk (omega arith));
       }
     where
       two : length pre2 + length (encode callRax) ≡ length pre2 + 2
@@ -346,16 +367,16 @@ module _ (undefined : State → Flags) (ok : Permissions) (P : ℕ → Bool) (b 
       let nx : (pc ≡ q .pc) × (q .stop ≡ called k i) = stops s1 (next-at q s r (calls k i pc) e) in
       let u : State = run undefined (passes i pc a) s1 in
       let fa : Passed s1 u i pc a = passed undefined i pc a s1 in
-      let w = go-on undefined ok P b c p code pl (passes i pc a) pre (encode callRax ++ end) s s1 (q .registers) (q .registers)
-      z (fit-passes i pc a li lp (low k)) (r .mid)
+      let w = go-on undefined ok P b c p code pl (passes i pc a) pre (encode callRax ++ end) s s1 u 6 (q .registers) (q .registers)
+      z (leads-straight undefined (passes i pc a) s1 (fit-passes i pc a li lp (low k))) (r .mid)
       (record { base = fa .rbx ∙ r .mid .slots .base; slots = λ j l. rw (fa .same) (r .mid .slots .slots j l) }) in
       let pre2 : List ℕ = pre ++ bytes (passes i pc a) in
       let z2 : code ≡ pre2 ++ (encode callRax ++ end) = z ∙ sym (append-assoc pre (bytes (passes i pc a)) _) in
       let ca = called-at undefined ok P b c p code pl (q .registers) (length pre2) s u (w .1) in (
         record {
           u = u;
-          n = 13 + length (part .code) + 6;
-          way = way-append undefined ok P s s1 u (13 + length (part .code)) 6 (r .way) (w .0);
+          n = 13 + r .n + 6;
+          way = way-append undefined ok P s s1 u (13 + r .n) 6 (r .way) (w .0);
           call = call-step undefined ok P b c p code pl pre2 end s u (q .registers) z2 (w .1);
           slots = w .1 .slots .slots;
           r8 = fa .r8 ∙ nx .0;
@@ -366,7 +387,7 @@ module _ (undefined : State → Flags) (ok : Permissions) (P : ℕ → Bool) (b 
           rsp = w .1 .rsp;
           target = ca .rip ∙ fa .rax;
           slots-inside = ca .slots;
-          back = λ v rt lv. returns q s u v n pre2 (u .regs RAX) (13 + length (part .code) + 6) ln lv z2 ca rt (r .same)
+          back = λ v rt lv. returns q s u v n pre2 (u .regs RAX) (13 + r .n + 6) (r .n) (r .through) ln lv z2 ca rt (r .same)
               (count (calls k i pc) e ∙ rw (calls-length h1 h2 k i pc n)) (omega arith);
         },
         nx .1,

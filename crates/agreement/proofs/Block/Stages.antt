@@ -11,7 +11,7 @@ use Rattle.agreement.specs.Riscv.Run.{Registers}
 use Rattle.agreement.specs.Translation.Emit.{closing, opening}
 use Rattle.agreement.specs.Statement.Premises.{Apart}
 use Rattle.agreement.specs.X86.Encode.{bytes, encode}
-use Rattle.agreement.specs.X86.Execute.{accesses, exec}
+use Rattle.agreement.specs.X86.Execute.{accesses, exec, faults}
 use Rattle.agreement.specs.X86.Form.{Instr, Instr.callRax, Instr.ret, Ok, R12, R13, R14, R15, RAX, RBP, RBX, RCX, RDI, RDX, RSI, RSP}
 use Rattle.agreement.specs.X86.Memory.{Memory, at, read, span, write}
 use Rattle.agreement.specs.X86.State.{Flags, Permissions, State, set}
@@ -21,9 +21,9 @@ use Rattle.agreement.proofs.Block.Frame.{frame-out, framed, framed-same
 use Rattle.agreement.proofs.Host.Fetching.{Holds, fetch, holds-bytes, holds-ext, holds-split, next-is, one, step-is, writes}
 use Rattle.agreement.proofs.Host.Memory.{read-bytes, read-ext, write-out, read-other}
 use Rattle.agreement.proofs.Host.Straight.{Fine, Kept, Safe, all-append, all-span, goes-append, ran, run, trace, unlogged}
-use Rattle.agreement.proofs.Words.Fit.{Fit}
+use Rattle.agreement.proofs.Words.Fit.{Leads}
 use Rattle.agreement.proofs.Words.Slots.{Slots}
-use Rattle.agreement.proofs.Words.Tame.{Within, tame-run, tame-safe, tame-trace}
+use Rattle.agreement.proofs.Words.Tame.{Within, trod}
 
 -- 1. The relations
 
@@ -177,17 +177,14 @@ module _ (undefined : State → Flags) (ok : Permissions) (P : ℕ → Bool) (b 
       read-ext 8 (t .mem) (s .mem) (p + k) (omega arith) (λ i o. w .outside (at (p + k) i) (λ j u.
       omega (arith, pl .b-p j (k + i) u (omega arith))))) h
 
-  pub go-on : (is : List Instr) (pre post : List ℕ) (e s : State) (x x′ : Registers) → code ≡ pre ++ (bytes is ++ post) → Fit is
-      → Mid ok b c p code e x (length pre) s → Slots b x′ (run undefined is s)
-      → Way undefined ok P s (run undefined is s) (length is) × Mid ok b c p code e x′ (length (pre ++ bytes is)) (run undefined is s)
-  go-on is pre post e s x x′ q ft h sl =
-      let t : State = run undefined is s in
-      let rb : s .regs RBX ≡ b = h .slots .base in
-      let w : Within b s t = tame-run undefined b (pl .b-fits) is s rb (ft .tame) in
-      let sf : Safe undefined ok c (length code) is s =
-      tame-safe undefined b (pl .b-fits) ok (pl .b-read) (pl .b-write) c (length code) (pl .c-fits) (pl .c-b) is s rb (ft .tame) in
-      let r = ran undefined ok c code is pre post s q (pl .c-low) (ft .fine) sf (h .held) (h .rip) in (
-        record { ws = trace undefined is s; goes = r .reached; own = tame-trace undefined b (pl .b-fits) P (pl .own-b) is s rb (ft .tame) },
+  pub go-on : (is : List Instr) (pre post : List ℕ) (e s t : State) (n : ℕ) (x x′ : Registers) → code ≡ pre ++ (bytes is ++ post)
+      → Leads undefined is s n t → Mid ok b c p code e x (length pre) s → Slots b x′ t
+      → Way undefined ok P s t n × Mid ok b c p code e x′ (length (pre ++ bytes is)) t
+  go-on is pre post e s t n x x′ q ld h sl =
+      let r = trod undefined b (pl .b-fits) ok P c code (pl .b-read) (pl .b-write) (pl .own-b) (pl .c-low) (pl .c-fits) (pl .c-b)
+      is pre post s t n q (ld .sound .allowed) (ld .sound .tame) (ld .path) (h .slots .base) (h .held) (h .rip) in
+      let w : Within b s t = r .within in (
+        record { ws = r .ws; goes = r .goes; own = r .own },
         record {
           rip = r .there ∙ ap (at c) (sym (length-append pre (bytes is)));
           held = r .held;
@@ -212,7 +209,8 @@ module _ (undefined : State → Flags) (ok : Permissions) (P : ℕ → Bool) (b 
 
   ret-step : (u : State) → Holds (ok .fetch) (u .mem) (u .rip) (encode ret) → all (ok .read) (span 8 (u .regs RSP)) ≡ true
       → step undefined ok u ≡ some (one undefined ret u, [])
-  ret-step u h a = by (step-is undefined ok ret u ok-ret h (unfold accesses in a) (unfold accesses in nothing (ok .write)))
+  ret-step u h a =
+      by (step-is undefined ok ret u ok-ret h (unfold faults in refl) (unfold accesses in a) (unfold accesses in nothing (ok .write)))
     where
       by : step undefined ok u ≡ some (one undefined ret u, writes ret u) → step undefined ok u ≡ some (one undefined ret u, [])
       by e = unfold accesses in e
@@ -338,7 +336,7 @@ module _ (undefined : State → Flags) (ok : Permissions) (P : ℕ → Bool) (b 
       record {
         ws = writes callRax u;
         fetch = next-is ok callRax u ok-call hi;
-        does = step-is undefined ok callRax u ok-call hi (unfold accesses in nothing (ok .read)) wr;
+        does = step-is undefined ok callRax u ok-call hi (unfold faults in refl) (unfold accesses in nothing (ok .read)) wr;
         own = rw w (span-p P (pl .own-r));
       }
 

@@ -1,5 +1,6 @@
--- The cases that document 01 marks P, those and no others: one list, and one Boolean test over it.
--- Document 01's case stands above each. The bytes are those that the original Rust wrote; `_` parts host instructions.
+-- The cases that document 01 marks P, as document 02 changes them, those and no others: one list, and one Boolean test over it.
+-- The case stands above each. The bytes are those that the original Rust wrote, but for DIVW, which the Rust does not take: an
+-- assembler's. `_` parts host instructions.
 use mathlib.Core.Bool.{Bool, true, false, _&&_}
 use mathlib.Core.List.{List, [], _∷_, _++_}
 use Prim.Native.Nat.{ℕ, zero, suc, _-_, _/_, _%_, _^_}
@@ -55,7 +56,7 @@ isReply r number values bytes =
 
 -- both helpers 0, and an output that is large enough
 abbrev pub reply : ℕ → ℕ → List ℕ → Reply
-reply start limit hs = translate start limit hs 0 0 2243
+reply start limit hs = translate start limit hs 0 0 4099
 
 unfoldable pub holds : Case → Bool
 holds (immediate f w v) = eqb (byManual f w) v && eqb (byRust f w) v
@@ -120,12 +121,13 @@ cases =
     (framed (dump 41 0x4C8B9300000000_4981C205000000_4C899308000000_48B80400008000000000_48BA0100000000000000))
     -- Followed by 0x00000073 (ECALL): the same block
     ∷ same 0x80000000 64 (words (0x00500093 ∷ 0x00000073 ∷ [])) (words (0x00500093 ∷ []))
-    -- 0x00500093 then 0x022091B3 (MULH): 102 bytes, count 1. the 14 bytes of MULH's two loads stay in
-    ∷ translation 0x80000000 64 (words (0x00500093 ∷ 0x022091B3 ∷ [])) 0 (102 ∷ 1 ∷ [])
+    -- 0x00500093 then 0x4020C1B3 (funct7 0x20 on funct3 4), which stands for MULH (document 02, Q-2): 102 bytes, count 1. The two
+    -- register loads of the word that is not taken, 14 bytes, stay in
+    ∷ translation 0x80000000 64 (words (0x00500093 ∷ 0x4020C1B3 ∷ [])) 0 (102 ∷ 1 ∷ [])
     (framed (dump 21 0x4C8B9300000000_4981C205000000_4C899308000000
     ++ dump 34 0x4C8B9308000000_4C8B9B10000000_48B80400008000000000_48BA0100000000000000))
-    -- MULH first: number 4
-    ∷ translation 0x80000000 64 (words (0x022091B3 ∷ [])) 4 (0x022091B3 ∷ []) []
+    -- 0x4020C1B3 first: number 4
+    ∷ translation 0x80000000 64 (words (0x4020C1B3 ∷ [])) 4 (0x4020C1B3 ∷ []) []
     -- 0x00500093 then halfword 0x0001: 116 bytes, count 2
     ∷ translation 0x80000000 64 (words (0x00500093 ∷ []) ++ 0x0001 ∷ []) 0 (116 ∷ 2 ∷ [])
     (framed (dump 21 0x4C8B9300000000_4981C205000000_4C899308000000
@@ -141,6 +143,11 @@ cases =
     -- sixty-four times 0x002091BB (SLLW): 2,243 bytes
     ∷ translation 0x80000000 64 (copies 64 (words (0x002091BB ∷ []))) 0 (2243 ∷ 64 ∷ [])
     (framed (copies 64 (dump 34 0x4C8B9308000000_4C8B9B10000000_4C89D9_4883E11F_41D3E2_4D63D2_4C899318000000)
+    ++ dump 20 0x48B80001008000000000_48BA4000000000000000))
+    -- sixty-four times 0x0220C1BB (DIVW): 4,099 bytes, the greatest of any block (document 02, Q-2)
+    ∷ translation 0x80000000 64 (copies 64 (words (0x0220C1BB ∷ []))) 0 (4099 ∷ 64 ∷ [])
+    (framed (copies 64 (dump 14 0x4C8B9308000000_4C8B9B10000000
+    ++ dump 49 0x4D63D2_4D63DB_4C89D9_4883C101_4C89D0_490FAFC3_4829C8_4883F902_7207_4C89D0_99_41F7FB_4989C2_4D63D2_4C899318000000)
     ++ dump 20 0x48B80001008000000000_48BA4000000000000000))
     -- used 5, code 67, store 75: offset 8, used 75. Store 74: number 7
     ∷ placing 5 67 75 0 (8 ∷ 75 ∷ [])

@@ -22,7 +22,7 @@ range a n x = leb a x && ltb x (a + n)
 -- with the stack from 64 below sp to 8 above it
 abbrev pub permissions : ℕ → Permissions
 permissions sp = record {
-  fetch = range 0x20000 2243;
+  fetch = range 0x20000 4099;
   read = λ x. range 0x10000 256 x || range (sp - 64) 72 x;
   write = λ x. range 0x10000 256 x || range (sp - 64) 72 x;
 }
@@ -48,7 +48,7 @@ turnOf sp code hs helper = record {
   reach = length hs;
   helper16 = 0x1111;
   helperMem = 0x2222;
-  output = replicate 2243 0;
+  output = replicate 4099 0;
   block = 0x20000;
   base = 0x10000;
   sp = sp;

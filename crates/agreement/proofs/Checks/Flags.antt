@@ -1,14 +1,18 @@
 -- Flags, also those that no block looks at: the SDM's values as computed vectors, and the laws of a shift by 0.
 -- The values are what a processor gave for the same instruction and operands, but for the flags that the SDM leaves undefined.
-use mathlib.Core.Bool.{Bool, _&&_, false, true}
+use mathlib.Core.Bool.{Bool, _&&_, cond, false, true}
 use mathlib.Core.List.{List, [], _∷_}
 use mathlib.Core.Path.{_≡_, refl}
 use Prim.Native.Nat.{_*_, _+_, _-_, _^_, ℕ}
 use lib.Dec.{eqb}
-use Rattle.agreement.specs.X86.Flags.{addFlags, aluFlags, bitOf, evenOnes, imulFlags, logicFlags, ones, sext, shiftFlags}
-use Rattle.agreement.specs.X86.Flags.{shiftOverflow, shifted, shiftedOut, subFlags}
-use Rattle.agreement.specs.X86.Form.{Alu, Alu.add, Alu.and, Alu.cmp, Alu.or, Alu.sub, Alu.xor, Shift, Shift.sar, Shift.shl, Shift.shr}
-use Rattle.agreement.specs.X86.State.{Flags}
+use Rattle.agreement.specs.X86.Execute.{mulDivTo}
+use Rattle.agreement.specs.X86.Flags.{addFlags, aluFlags, asBits, asSigned, bitOf, evenOnes, imulFlags, logicFlags, ones, sext}
+use Rattle.agreement.specs.X86.Flags.{shiftFlags, shiftOverflow, shifted, shiftedOut, smulFlags, subFlags, umulFlags}
+use Rattle.agreement.specs.X86.Form.{Alu, MulDiv, RAX, Shift}
+use Rattle.agreement.specs.X86.Form.Alu.{add, and, cmp, or, sub, xor}
+use Rattle.agreement.specs.X86.Form.MulDiv.{sdiv, smul, udiv, umul}
+use Rattle.agreement.specs.X86.Form.Shift.{sar, shl, shr}
+use Rattle.agreement.specs.X86.State.{Flags, State}
 
 -- a shift by count 0 leaves every flag
 pub shift-zero : (w : ℕ) (op : Shift) (a : ℕ) (old u : Flags) → shiftFlags w op a 0 old u ≡ old
@@ -30,12 +34,20 @@ data Vector : Type 0 where
   byAlu : (w : ℕ) (op : Alu) (a b low high : ℕ) → Vector
   byShift : (w : ℕ) (op : Shift) (a c low high : ℕ) → Vector
   byImul : (w a b low high : ℕ) → Vector
+  byMulDiv : (w : ℕ) (op : MulDiv) (a b low high : ℕ) → Vector
 
--- the flags before a shift are the opposite of what it leaves undefined
+-- before MUL, IMUL, DIV and IDIV of one operand: a in RAX, RDX 0
+abbrev holding : ℕ → Flags → State
+holding a f = record { regs = λ k. cond (eqb k RAX) a 0; flags = f; rip = 0; mem = λ x. 0 }
+
+-- the flags before a shift, a product or a division are the opposite of what it leaves undefined
 abbrev passes : Vector → Bool
 passes (byAlu w op a b low high) = eqb (number (aluFlags w op a b off)) low && eqb (number (aluFlags w op a b on)) high
 passes (byShift w op a c low high) = eqb (number (shiftFlags w op a c on off)) low && eqb (number (shiftFlags w op a c off on)) high
 passes (byImul w a b low high) = eqb (number (imulFlags w a b off)) low && eqb (number (imulFlags w a b on)) high
+passes (byMulDiv w op a b low high) =
+    eqb (number (mulDivTo (λ s. off) op w b (holding a on) .flags)) low
+    && eqb (number (mulDivTo (λ s. on) op w b (holding a off) .flags)) high
 
 abbrev pass : List Vector → Bool
 pass [] = true
@@ -82,8 +94,35 @@ vectors =
     ∷ byImul 64 (2 ^ 32) (2 ^ 31) 0b100001 0b111111
     ∷ byImul 32 (2 ^ 16) (2 ^ 16) 0b100001 0b111111
     ∷ byImul 32 (2 ^ 32 - 3) 5 0b000000 0b011110
-    ∷ byImul 32 (2 ^ 16) (2 ^ 15) 0b100001 0b111111 ∷ []
+    ∷ byImul 32 (2 ^ 16) (2 ^ 15) 0b100001 0b111111
+    ∷ byMulDiv 64 umul (2 ^ 32) (2 ^ 32) 0b100001 0b111111
+    ∷ byMulDiv 64 umul (2 ^ 32 - 1) (2 ^ 32 + 1) 0b000000 0b011110
+    ∷ byMulDiv 64 umul (2 ^ 64 - 1) 1 0b000000 0b011110
+    ∷ byMulDiv 64 umul (2 ^ 64 - 1) (2 ^ 64 - 1) 0b100001 0b111111
+    ∷ byMulDiv 64 umul (2 ^ 63) 2 0b100001 0b111111
+    ∷ byMulDiv 64 umul 0 (2 ^ 64 - 1) 0b000000 0b011110
+    ∷ byMulDiv 32 umul (2 ^ 16) (2 ^ 16) 0b100001 0b111111
+    ∷ byMulDiv 32 umul (2 ^ 16 - 1) (2 ^ 16 + 1) 0b000000 0b011110
+    ∷ byMulDiv 32 umul (2 ^ 32 - 1) 1 0b000000 0b011110
+    ∷ byMulDiv 32 umul (2 ^ 32 - 1) (2 ^ 32 - 1) 0b100001 0b111111
+    ∷ byMulDiv 64 smul (2 ^ 62) 2 0b100001 0b111111
+    ∷ byMulDiv 64 smul (2 ^ 63 - 1) 1 0b000000 0b011110
+    ∷ byMulDiv 64 smul (2 ^ 62) (2 ^ 64 - 2) 0b000000 0b011110
+    ∷ byMulDiv 64 smul 0xD555555555555555 3 0b100001 0b111111
+    ∷ byMulDiv 64 smul (2 ^ 63) (2 ^ 64 - 1) 0b100001 0b111111
+    ∷ byMulDiv 64 smul (2 ^ 64 - 1) (2 ^ 64 - 1) 0b000000 0b011110
+    ∷ byMulDiv 64 smul (2 ^ 63) (2 ^ 63) 0b100001 0b111111
+    ∷ byMulDiv 32 smul (2 ^ 30) 2 0b100001 0b111111
+    ∷ byMulDiv 32 smul (2 ^ 30) (2 ^ 32 - 2) 0b000000 0b011110
+    ∷ byMulDiv 32 smul 0xD5555555 3 0b100001 0b111111
+    ∷ byMulDiv 32 smul (2 ^ 31) (2 ^ 32 - 1) 0b100001 0b111111
+    ∷ byMulDiv 32 smul (2 ^ 32 - 1) (2 ^ 32 - 1) 0b000000 0b011110
+    ∷ byMulDiv 64 udiv 7 2 0b000000 0b111111
+    ∷ byMulDiv 32 udiv 7 2 0b000000 0b111111
+    ∷ byMulDiv 64 sdiv (2 ^ 64 - 7) 2 0b000000 0b111111
+    ∷ byMulDiv 32 sdiv 7 (2 ^ 32 - 2) 0b000000 0b111111 ∷ []
 
 vectors-pass : pass vectors ≡ true
 unfolding vectors aluFlags addFlags subFlags logicFlags shiftFlags imulFlags shiftedOut shiftOverflow shifted evenOnes ones sext
+    asSigned asBits umulFlags smulFlags
 vectors-pass = refl

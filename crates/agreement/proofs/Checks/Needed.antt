@@ -22,14 +22,16 @@ unfoldable every : List Run → Bool
 every [] = true
 every (r ∷ rs) = equal (needed (r .limit) (r .halfwords)) (take (r .number) (r .halfwords)) && every rs
 
--- behind ADDI stand JAL, BNE, LD, SD, MULH, C.NOP, FENCE with JAL, and FENCE.I; FENCE.I first; then the limit; then runs that end
+-- behind ADDI stand JAL, BNE, LD, SD, OP with funct7 0x20 and funct3 4, MULH with JAL, C.NOP, FENCE with JAL, and FENCE.I; FENCE.I
+-- first; then the limit; then runs that end
 unfoldable runs : List Run
 runs =
     run 64 4 (0x0093 ∷ 0x0050 ∷ 0x006F ∷ 0x0000 ∷ 0x0093 ∷ 0x0050 ∷ [])
     ∷ run 64 4 (0x0093 ∷ 0x0050 ∷ 0x9CE3 ∷ 0xFE20 ∷ 0x0093 ∷ 0x0050 ∷ [])
     ∷ run 64 4 (0x0093 ∷ 0x0050 ∷ 0xB083 ∷ 0x0000 ∷ 0x0093 ∷ 0x0050 ∷ [])
     ∷ run 64 4 (0x0093 ∷ 0x0050 ∷ 0x3023 ∷ 0x0000 ∷ 0x0093 ∷ 0x0050 ∷ [])
-    ∷ run 64 4 (0x0093 ∷ 0x0050 ∷ 0x91B3 ∷ 0x0220 ∷ 0x0093 ∷ 0x0050 ∷ [])
+    ∷ run 64 4 (0x0093 ∷ 0x0050 ∷ 0xC1B3 ∷ 0x4020 ∷ 0x0093 ∷ 0x0050 ∷ [])
+    ∷ run 64 6 (0x0093 ∷ 0x0050 ∷ 0x91B3 ∷ 0x0220 ∷ 0x006F ∷ 0x0000 ∷ 0x0093 ∷ [])
     ∷ run 64 3 (0x0093 ∷ 0x0050 ∷ 0x0001 ∷ 0x0093 ∷ 0x0050 ∷ [])
     ∷ run 64 6 (0x0093 ∷ 0x0050 ∷ 0x000F ∷ 0x0000 ∷ 0x006F ∷ 0x0000 ∷ 0x0093 ∷ [])
     ∷ run 64 4 (0x0093 ∷ 0x0050 ∷ 0x100F ∷ 0x0000 ∷ 0x0093 ∷ 0x0050 ∷ [])

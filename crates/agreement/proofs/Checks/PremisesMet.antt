@@ -45,7 +45,7 @@ pub record Allowed (sp : ℕ) : Type 0 where
   pub fits : sp + 8 ≤ 2 ^ 64
   pub aligned : sp % 16 ≡ 8
 
-laid-out : (sp : ℕ) (g : Code) (hs : List ℕ) (h : State → State) (k : ℕ) → Allowed sp → k ≤ 2243 → Layout (turnOf sp g hs h) k
+laid-out : (sp : ℕ) (g : Code) (hs : List ℕ) (h : State → State) (k : ℕ) → Allowed sp → k ≤ 4099 → Layout (turnOf sp g hs h) k
 laid-out sp g hs h k s l = record {
   base-fits = omega arith;
   stack-low = omega (arith, s .above);
@@ -54,7 +54,7 @@ laid-out sp g hs h k s l = record {
   block-base-apart = λ i j a b. omega arith;
   block-stack-apart = λ i j a b. omega (arith, s .above);
   base-stack-apart = λ i j a b. omega (arith, s .above);
-  block-fetch = λ i a. range-in 0x20000 2243 i (omega arith);
+  block-fetch = λ i a. range-in 0x20000 4099 i (omega arith);
   base-read = base-may (sp - 64);
   base-write = base-may (sp - 64);
   stack-read = stack-may (sp - 64);
@@ -70,7 +70,7 @@ outside m r v x l h =
     ∙ write-out 8 m (0x10000 + 8 * r) v x (omega arith) (λ i k. omega (arith, h (8 * r + i) (omega arith)))
 
 leaves-keeps : (sp : ℕ) (g : Code) (hs : List ℕ) (h : State → State) (r v rax rdx k : ℕ) (u : State)
-    → Allowed sp → r < 32 → rax < 2 ^ 64 → rdx < 2 ^ 64 → k ≤ 2243 → Keeps (turnOf sp g hs h) k u (leaves r v rax rdx u)
+    → Allowed sp → r < 32 → rax < 2 ^ 64 → rdx < 2 ^ 64 → k ≤ 4099 → Keeps (turnOf sp g hs h) k u (leaves r v rax rdx u)
 unfolding leaves
 leaves-keeps sp g hs h r v rax rdx k u s l la ld lk = record {
   rip = refl;
@@ -90,10 +90,10 @@ leaves-keeps sp g hs h r v rax rdx k u s l la ld lk = record {
 
 -- 2. The turns meet the premises, each at its pc
 
-pub no-longer : (t : Turn) (pc : ℕ) (b : Block) → reply t pc ≡ block b → length (b .code) ≤ 2243
+pub no-longer : (t : Turn) (pc : ℕ) (b : Block) → reply t pc ≡ block b → length (b .code) ≤ 4099
 no-longer t pc b e = by lengths
   where
-    by : Lengths → length (b .code) ≤ 2243
+    by : Lengths → length (b .code) ≤ 4099
     by h = unfold Lengths in h pc (t .limit) (t .made) (t .helper16) (t .helperMem) (length (t .output)) b e .1
 
 pub turnOf-meets : (sp : ℕ) (g : Code) (hs : List ℕ) (r v rax rdx pc : ℕ) → Allowed sp → hs ≡ runAt g pc (length hs)
@@ -102,7 +102,7 @@ turnOf-meets sp g hs r v rax rdx pc s un lr la ld = record {
   typed = record { helper16 = omega arith; helperMem = omega arith; others = λ k h. omega arith };
   unchanged = un;
   enterable = λ b rb e.
-      let n : length (b .code) ≤ 2243 = no-longer (turnOf sp g hs (leaves r v rax rdx)) pc b e in
+      let n : length (b .code) ≤ 4099 = no-longer (turnOf sp g hs (leaves r v rax rdx)) pc b e in
       record {
         layout = laid-out sp g hs (leaves r v rax rdx) (length (b .code)) s n;
         helper = λ u a k ws xs g′ c. leaves-keeps sp g hs (leaves r v rax rdx) r v rax rdx (length (b .code)) a s lr la ld n;

@@ -1,4 +1,4 @@
--- Blocks of 67 and of 2,243 bytes: a fence, and sixty-four times SLLW.
+-- Blocks of 67 and of 4,099 bytes: a fence, and sixty-four times DIVW, which has 63 bytes (67 + 64 * 63).
 use mathlib.Core.List.{[], _∷_}
 use mathlib.Core.Path.{refl}
 use Rattle.agreement.proofs.Checks.Cases.{copies, words}
@@ -17,13 +17,13 @@ the-least = record {
   long = refl;
 }
 
-the-greatest : Reaches 2243
+the-greatest : Reaches 4099
 unfolding translations words copies
 the-greatest = record {
   start = 0x80000000;
   limit = 64;
-  halfwords = copies 64 (words (0x002091BB ∷ []));
-  result = blockOf 0 0 (walked 0x80000000 64 (copies 64 (words (0x002091BB ∷ []))));
+  halfwords = copies 64 (words (0x0220C1BB ∷ []));
+  result = blockOf 0 0 (walked 0x80000000 64 (copies 64 (words (0x0220C1BB ∷ []))));
   reply = refl;
   long = refl;
 }

@@ -1,4 +1,5 @@
--- Further vectors of the definitions: replies, bytes and immediates as the original Rust gives them.
+-- Further vectors of the definitions: replies, bytes and immediates as the original Rust gives them. Of the words that the Rust does
+-- not take, the rest of M (document 02, Q-2), the bytes are what an assembler makes of their host instructions.
 use mathlib.Core.Path.{_≡_, refl}
 use mathlib.Core.Bool.{Bool, true, _&&_}
 use mathlib.Core.List.{List, [], _∷_, _++_}
@@ -11,11 +12,12 @@ use Rattle.agreement.proofs.Checks.Cases.Case.{immediate}
 use Rattle.agreement.proofs.Checks.CasesHold.{immediates, translations, tests}
 
 -- a word translated alone at 0x80000000, with its n bytes: it goes on, it ends the block, it ends in a helper's call;
--- a word that goes on and has no bytes; a word not taken behind an ADDI, with the n bytes that it leaves, or none;
--- a run of halfwords, the output's length, and the whole reply;
+-- a word with rd x3, rs1 x1 and rs2 x2, which goes on, with its n bytes between loads and store; a word that goes on and has no bytes;
+-- a word not taken behind an ADDI, with the n bytes that it leaves, or none; a run of halfwords, the output's length, and the whole reply;
 -- the I, S, B, U and J immediate of a word, by both definitions
 data Vector : Type 0 where
   straight ending helped : (word n bytes : ℕ) → Vector
+  between : (word n bytes : ℕ) → Vector
   silent : (word : ℕ) → Vector
   leaves : (word n bytes : ℕ) → Vector
   leavesNothing : (word : ℕ) → Vector
@@ -27,7 +29,7 @@ translated start limit hs room = translate start limit hs 0x1111111111111111 0x2
 
 -- words whose block has count 1, and its bytes between opening and closing
 abbrev single : List ℕ → List ℕ → Bool
-single ws bytes = isReply (translated 0x80000000 64 (words ws) 2243) 0 (length (framed bytes) ∷ 1 ∷ []) (framed bytes)
+single ws bytes = isReply (translated 0x80000000 64 (words ws) 4099) 0 (length (framed bytes) ∷ 1 ∷ []) (framed bytes)
 
 -- RDX becomes the count; before that RAX the next pc, unless the word has set it
 abbrev counts : List ℕ
@@ -44,6 +46,8 @@ abbrev passes : Vector → Bool
 passes (straight w n v) = single (w ∷ []) (dump n v ++ goesOn)
 passes (ending w n v) = single (w ∷ []) (dump n v ++ counts)
 passes (helped w n v) = single (w ∷ []) (dump n v)
+passes (between w n v) =
+    single (w ∷ []) (dump 14 0x4C8B9308000000_4C8B9B10000000 ++ (dump n v ++ (dump 7 0x4C899318000000 ++ goesOn)))
 passes (silent w) = single (w ∷ []) goesOn
 passes (leaves w n v) = single (0x00500093 ∷ w ∷ []) (addi ++ (dump n v ++ goesOn))
 passes (leavesNothing w) = single (0x00500093 ∷ w ∷ []) (addi ++ goesOn)
@@ -77,6 +81,18 @@ each-word =
     ∷ straight 0x41CCD33B 34 0x4C8B93C8000000_4C8B9BE0000000_4C89D9_4883E11F_41D3FA_4D63D2_4C899330000000  -- SRAW x6, x25, x28
     ∷ straight 0x027A06B3 25 0x4C8B93A0000000_4C8B9B38000000_4D0FAFD3_4C899368000000  -- MUL x13, x20, x7
     ∷ straight 0x03278A3B 28 0x4C8B9378000000_4C8B9B90000000_450FAFD3_4D63D2_4C8993A0000000  -- MULW x20, x15, x18
+    -- the rest of M
+    ∷ between 0x022091B3 9 0x4C89D0_49F7EB_4989D2  -- MULH
+    ∷ between 0x0220A1B3 17 0x4C89D0_49F7E3_49C1FA3F_4D0FAFD3_4901D2  -- MULHSU
+    ∷ between 0x0220B1B3 9 0x4C89D0_49F7E3_4989D2  -- MULHU
+    ∷ between 0x0220C1B3 34 0x4C89D9_4883C101_4C89D0_490FAFC3_4829C8_4883F902_7208_4C89D0_4899_49F7FB_4989C2  -- DIV
+    ∷ between 0x0220D1B3 20 0x4883C8FF_4D21DB_7408_4C89D0_31D2_49F7F3_4989C2  -- DIVU
+    ∷ between 0x0220E1B3 31 0x4C89D9_4883C101_4C89D2_480FAFD1_4883F902_7208_4C89D0_4899_49F7FB_4989D2  -- REM
+    ∷ between 0x0220F1B3 19 0x4C89D2_4D21DB_7408_4C89D0_31D2_49F7F3_4989D2  -- REMU
+    ∷ between 0x0220C1BB 42 0x4D63D2_4D63DB_4C89D9_4883C101_4C89D0_490FAFC3_4829C8_4883F902_7207_4C89D0_99_41F7FB_4989C2_4D63D2  -- DIVW
+    ∷ between 0x0220D1BB 23 0x4883C8FF_4521DB_7408_4C89D0_31D2_41F7F3_4989C2_4D63D2  -- DIVUW
+    ∷ between 0x0220E1BB 39 0x4D63D2_4D63DB_4C89D9_4883C101_4C89D2_480FAFD1_4883F902_7207_4C89D0_99_41F7FB_4989D2_4D63D2  -- REMW
+    ∷ between 0x0220F1BB 22 0x4C89D2_4521DB_7408_4C89D0_31D2_41F7F3_4989D2_4D63D2  -- REMUW
     -- OP-IMM and OP-IMM-32
     ∷ straight 0xFFF08F93 21 0x4C8B9308000000_4981C2FFFFFFFF_4C8993F8000000  -- ADDI x31, x1, -1
     ∷ straight 0x8003AE13 28 0x4C8B9338000000_4981FA00F8FFFF_0F9CC0_4C0FB6D0_4C8993E0000000  -- SLTI x28, x7, -2048
@@ -121,6 +137,8 @@ each-word =
     ∷ straight 0x40C5D013 11 0x4C8B9358000000_49C1FA0C  -- SRAI
     ∷ silent 0x80000037  -- LUI
     ∷ silent 0x00001017  -- AUIPC
+    -- DIV x0, x1, x0
+    ∷ straight 0x0200C033 48 0x4C8B9308000000_4C8B9B00000000_4C89D9_4883C101_4C89D0_490FAFC3_4829C8_4883F902_7208_4C89D0_4899_49F7FB_4989C2
     -- loads and stores, through the second helper
     ∷ helped 0x000F8083 41 0x4C89E7_4C89EE_4C89F2_48B983800F0000000000_49B80000008000000000_48B82222222222222222_FFD0  -- LB
     ∷ helped 0xFFFF1283 41 0x4C89E7_4C89EE_4C89F2_48B98312FFFF00000000_49B80000008000000000_48B82222222222222222_FFD0  -- LH
@@ -140,7 +158,10 @@ runs =
     -- what a word that is not taken leaves behind an ADDI
     leaves 0x05F32063 17 0x4C8B9330000000_4C8B9BF8000000_4D39DA  -- BRANCH funct3 2
     ∷ leaves 0x046FB063 17 0x4C8B93F8000000_4C8B9B30000000_4D39DA  -- BRANCH funct3 3
-    ∷ leaves 0x027F41B3 14 0x4C8B93F0000000_4C8B9B38000000  -- OP: DIV
+    ∷ leaves 0x407F41B3 14 0x4C8B93F0000000_4C8B9B38000000  -- OP: funct7 0x20 on funct3 4
+    ∷ leaves 0x027F11BB 14 0x4C8B93F0000000_4C8B9B38000000  -- OP-32: funct7 1 on funct3 1
+    ∷ leaves 0x027F21BB 14 0x4C8B93F0000000_4C8B9B38000000  -- OP-32: funct7 1 on funct3 2
+    ∷ leaves 0x027F31BB 14 0x4C8B93F0000000_4C8B9B38000000  -- OP-32: funct7 1 on funct3 3
     ∷ leaves 0x01D421BB 14 0x4C8B9340000000_4C8B9BE8000000  -- OP-32: funct3 2
     ∷ leaves 0x040E1193 7 0x4C8B93E0000000  -- OP-IMM: SLLI, bit 26
     ∷ leaves 0x0204919B 7 0x4C8B9348000000  -- OP-IMM-32: SLLIW by 32
@@ -150,81 +171,83 @@ runs =
     ∷ leavesNothing 0x0000200F  -- MISC-MEM funct3 2
     ∷ leavesNothing 0x1005252F  -- AMO
     ∷ leavesNothing 0xFFFFFFFF  -- low five bits 11111
-    ∷ run 0x80000000 64 (words (0x00500093 ∷ []) ++ 0x91B3 ∷ []) 2243 0 (88 ∷ 1 ∷ [])  -- OP, its upper half missing
+    ∷ run 0x80000000 64 (words (0x00500093 ∷ []) ++ 0x91B3 ∷ []) 4099 0 (88 ∷ 1 ∷ [])  -- OP, its upper half missing
     (framed (dump 41 0x4C8B9300000000_4981C205000000_4C899308000000_48B80400008000000000_48BA0100000000000000))
     -- helper ends: earlier count 0, then 2
-    ∷ run 0x80000000 64 (0x4501 ∷ []) 2243 0 (88 ∷ 1 ∷ [])  -- halfword
+    ∷ run 0x80000000 64 (0x4501 ∷ []) 4099 0 (88 ∷ 1 ∷ [])  -- halfword
     (framed (dump 41 0x4C89E7_4C89EE_4C89F2_48B90145000000000000_49B80000008000000000_48B81111111111111111_FFD0))
-    ∷ run 0x80000000 64 (words (0x00500093 ∷ 0xFFD08493 ∷ []) ++ 0x4501 ∷ []) 2243 0 (137 ∷ 3 ∷ [])  -- halfword
+    ∷ run 0x80000000 64 (words (0x00500093 ∷ 0xFFD08493 ∷ []) ++ 0x4501 ∷ []) 4099 0 (137 ∷ 3 ∷ [])  -- halfword
     (framed (dump 48 0x4C8B9300000000_4981C205000000_4C899308000000_4C8B9308000000_4981C2FDFFFFFF_4C899348000000_4C89E7_4C89EE
     ++ dump 42 0x4C89F2_48B90145000000000000_49B80800008000000000_48B81111111111111111_FFD0_4881C202000000))
-    ∷ run 0x80000000 64 (0x0000 ∷ 0x0093 ∷ []) 2243 0 (88 ∷ 1 ∷ [])  -- halfword 0
+    ∷ run 0x80000000 64 (0x0000 ∷ 0x0093 ∷ []) 4099 0 (88 ∷ 1 ∷ [])  -- halfword 0
     (framed (dump 41 0x4C89E7_4C89EE_4C89F2_48B90000000000000000_49B80000008000000000_48B81111111111111111_FFD0))
-    ∷ run 0x80000000 64 (words (0x00813083 ∷ [])) 2243 0 (88 ∷ 1 ∷ [])  -- LD
+    ∷ run 0x80000000 64 (words (0x00813083 ∷ [])) 4099 0 (88 ∷ 1 ∷ [])  -- LD
     (framed (dump 41 0x4C89E7_4C89EE_4C89F2_48B98330810000000000_49B80000008000000000_48B82222222222222222_FFD0))
-    ∷ run 0x80000000 64 (words (0x00500093 ∷ 0xFFD08493 ∷ 0x00813083 ∷ [])) 2243 0 (137 ∷ 3 ∷ [])  -- LD
+    ∷ run 0x80000000 64 (words (0x00500093 ∷ 0xFFD08493 ∷ 0x00813083 ∷ [])) 4099 0 (137 ∷ 3 ∷ [])  -- LD
     (framed (dump 48 0x4C8B9300000000_4981C205000000_4C899308000000_4C8B9308000000_4981C2FDFFFFFF_4C899348000000_4C89E7_4C89EE
     ++ dump 42 0x4C89F2_48B98330810000000000_49B80800008000000000_48B82222222222222222_FFD0_4881C202000000))
-    ∷ run 0x80000000 64 (words (0xFF1EBC23 ∷ [])) 2243 0 (88 ∷ 1 ∷ [])  -- SD
+    ∷ run 0x80000000 64 (words (0xFF1EBC23 ∷ [])) 4099 0 (88 ∷ 1 ∷ [])  -- SD
     (framed (dump 41 0x4C89E7_4C89EE_4C89F2_48B923BC1EFF00000000_49B80000008000000000_48B82222222222222222_FFD0))
-    ∷ run 0x80000000 64 (words (0x00500093 ∷ 0xFFD08493 ∷ 0xFF1EBC23 ∷ [])) 2243 0 (137 ∷ 3 ∷ [])  -- SD
+    ∷ run 0x80000000 64 (words (0x00500093 ∷ 0xFFD08493 ∷ 0xFF1EBC23 ∷ [])) 4099 0 (137 ∷ 3 ∷ [])  -- SD
     (framed (dump 48 0x4C8B9300000000_4981C205000000_4C899308000000_4C8B9308000000_4981C2FDFFFFFF_4C899348000000_4C89E7_4C89EE
     ++ dump 42 0x4C89F2_48B923BC1EFF00000000_49B80800008000000000_48B82222222222222222_FFD0_4881C202000000))
     -- the numbers 1 to 5, in their order
-    ∷ run 0x80000001 0 [] 2243 1 [] []  -- limit 0 before odd start
-    ∷ run 0x80000001 64 [] 2243 2 (0x80000001 ∷ []) []  -- odd start before the first word
+    ∷ run 0x80000001 0 [] 4099 1 [] []  -- limit 0 before odd start
+    ∷ run 0x80000001 64 [] 4099 2 (0x80000001 ∷ []) []  -- odd start before the first word
     ∷ run 0x80000000 64 [] 0 3 (0 ∷ []) []  -- no halfword, output short
     ∷ run 0x80000000 64 (0x0093 ∷ []) 0 3 (1 ∷ []) []  -- half a word, output short
     ∷ run 0x80000000 64 (words (0x00000073 ∷ [])) 0 4 (0x00000073 ∷ []) []  -- SYSTEM, output short
-    ∷ run 0x80000000 64 (words (0x0000F083 ∷ [])) 2243 4 (0x0000F083 ∷ []) []  -- LOAD funct3 7
-    ∷ run 0x80000000 64 (words (0x00500093 ∷ [])) 2242 5 [] []  -- output short by one
+    ∷ run 0x80000000 64 (words (0x0000F083 ∷ [])) 4099 4 (0x0000F083 ∷ []) []  -- LOAD funct3 7
+    ∷ run 0x80000000 64 (words (0x027F11BB ∷ [])) 4099 4 (0x027F11BB ∷ []) []  -- OP-32: funct7 1 on funct3 1
+    ∷ run 0x80000000 64 (words (0x00500093 ∷ [])) 4098 5 [] []  -- output short by one
+    ∷ run 0x80000000 64 (words (0x00500093 ∷ [])) 2243 5 [] []  -- output as long as the Rust's greatest block
     -- limits: 65 as 64; what stands behind the limit or an ending word is not looked at
-    ∷ run 0x80000000 65 (copies 65 (words (0x0000000F ∷ []))) 2243 0 (67 ∷ 64 ∷ [])  -- 65
+    ∷ run 0x80000000 65 (copies 65 (words (0x0000000F ∷ []))) 4099 0 (67 ∷ 64 ∷ [])  -- 65
     (framed (dump 20 0x48B80001008000000000_48BA4000000000000000))
-    ∷ run 0x80000000 64 (copies 65 (words (0x0000000F ∷ []))) 2243 0 (67 ∷ 64 ∷ [])  -- 64
+    ∷ run 0x80000000 64 (copies 65 (words (0x0000000F ∷ []))) 4099 0 (67 ∷ 64 ∷ [])  -- 64
     (framed (dump 20 0x48B80001008000000000_48BA4000000000000000))
-    ∷ run 0x80000000 4294967295 (copies 65 (words (0x0000000F ∷ []))) 2243 0 (67 ∷ 64 ∷ [])  -- 2^32 - 1
+    ∷ run 0x80000000 4294967295 (copies 65 (words (0x0000000F ∷ []))) 4099 0 (67 ∷ 64 ∷ [])  -- 2^32 - 1
     (framed (dump 20 0x48B80001008000000000_48BA4000000000000000))
-    ∷ run 0x80000000 64 (copies 63 (words (0x0000000F ∷ [])) ++ 0x0001 ∷ []) 2243 0 (95 ∷ 64 ∷ [])  -- 64, halfword the 64th
+    ∷ run 0x80000000 64 (copies 63 (words (0x0000000F ∷ [])) ++ 0x0001 ∷ []) 4099 0 (95 ∷ 64 ∷ [])  -- 64, halfword the 64th
     (framed (dump 48 0x4C89E7_4C89EE_4C89F2_48B90100000000000000_49B8FC00008000000000_48B81111111111111111_FFD0_4881C23F000000))
-    ∷ run 0x80000000 65 (copies 64 (words (0x0000000F ∷ [])) ++ 0x0001 ∷ []) 2243 0 (67 ∷ 64 ∷ [])  -- 64, halfword the 65th
+    ∷ run 0x80000000 65 (copies 64 (words (0x0000000F ∷ [])) ++ 0x0001 ∷ []) 4099 0 (67 ∷ 64 ∷ [])  -- 64, halfword the 65th
     (framed (dump 20 0x48B80001008000000000_48BA4000000000000000))
-    ∷ run 0x80000000 1 (words (0x0000000F ∷ 0x022091B3 ∷ [])) 2243 0 (67 ∷ 1 ∷ [])  -- 1, MULH behind
+    ∷ run 0x80000000 1 (words (0x0000000F ∷ 0x022091B3 ∷ [])) 4099 0 (67 ∷ 1 ∷ [])  -- 1, MULH behind
     (framed (dump 20 0x48B80400008000000000_48BA0100000000000000))
-    ∷ run 0x80000000 64 (words (0x00500093 ∷ 0x00008463 ∷ 0xFFD08493 ∷ [])) 2243 0 (122 ∷ 2 ∷ [])  -- BEQ ends the block
+    ∷ run 0x80000000 64 (words (0x00500093 ∷ 0x00008463 ∷ 0xFFD08493 ∷ [])) 4099 0 (122 ∷ 2 ∷ [])  -- BEQ ends the block
     (framed (dump 48 0x4C8B9300000000_4981C205000000_4C899308000000_4C8B9308000000_4C8B9B00000000_4D39DA_49BB0800008000000000
     ++ dump 27 0x48B80C00008000000000_4C0F44D8_4C89D8_48BA0200000000000000))
     -- addresses go on from 2^64 - 1 to 0
-    ∷ run 0xFFFFFFFFFFFFFFFC 64 (words (0x0000000F ∷ 0x00001097 ∷ []) ++ 0x0001 ∷ []) 2243 0 (112 ∷ 3 ∷ [])  -- AUIPC, halfword
+    ∷ run 0xFFFFFFFFFFFFFFFC 64 (words (0x0000000F ∷ 0x00001097 ∷ []) ++ 0x0001 ∷ []) 4099 0 (112 ∷ 3 ∷ [])  -- AUIPC, halfword
     (framed (dump 46 0x49BA0010000000000000_4C899308000000_4C89E7_4C89EE_4C89F2_48B90100000000000000_49B80400000000000000
     ++ dump 19 0x48B81111111111111111_FFD0_4881C202000000))
-    ∷ run 0xFFFFFFFFFFFFFFFC 64 (words (0xFFDFF0EF ∷ [])) 2243 0 (84 ∷ 1 ∷ [])  -- JAL, its link 0
+    ∷ run 0xFFFFFFFFFFFFFFFC 64 (words (0xFFDFF0EF ∷ [])) 4099 0 (84 ∷ 1 ∷ [])  -- JAL, its link 0
     (framed (dump 37 0x49BA0000000000000000_4C899308000000_48B8F8FFFFFFFFFFFFFF_48BA0100000000000000)) ∷ []
 
 -- FENCE.I ends its block (document 02, Q-1): the Rust's block of the run cut behind it. FENCE does not end it: the Rust's of the whole run
 fences : List Vector
 fences =
-    run 0x80000000 64 (words (0x0000108F ∷ 0x00500093 ∷ [])) 2243 0 (67 ∷ 1 ∷ [])  -- FENCE.I, rd x1
+    run 0x80000000 64 (words (0x0000108F ∷ 0x00500093 ∷ [])) 4099 0 (67 ∷ 1 ∷ [])  -- FENCE.I, rd x1
     (framed (dump 20 0x48B80400008000000000_48BA0100000000000000))
-    ∷ run 0x80000000 64 (words (0xFFFFFF8F ∷ [])) 2243 4 (0xFFFFFF8F ∷ []) []  -- MISC-MEM funct3 7
-    ∷ run 0x80000000 64 (words (0xFFFF9F8F ∷ 0x00500093 ∷ [])) 2243 0 (67 ∷ 1 ∷ [])  -- FENCE.I, all other fields ones
+    ∷ run 0x80000000 64 (words (0xFFFFFF8F ∷ [])) 4099 4 (0xFFFFFF8F ∷ []) []  -- MISC-MEM funct3 7
+    ∷ run 0x80000000 64 (words (0xFFFF9F8F ∷ 0x00500093 ∷ [])) 4099 0 (67 ∷ 1 ∷ [])  -- FENCE.I, all other fields ones
     (framed (dump 20 0x48B80400008000000000_48BA0100000000000000))
-    ∷ run 0x80000000 64 (words (0x0000000F ∷ 0x00500093 ∷ [])) 2243 0 (88 ∷ 2 ∷ [])  -- FENCE
+    ∷ run 0x80000000 64 (words (0x0000000F ∷ 0x00500093 ∷ [])) 4099 0 (88 ∷ 2 ∷ [])  -- FENCE
     (framed (dump 41 0x4C8B9300000000_4981C205000000_4C899308000000_48B80800008000000000_48BA0200000000000000))
-    ∷ run 0x80000000 64 (words (0x00500093 ∷ 0x0000100F ∷ 0x00500093 ∷ [])) 2243 0 (88 ∷ 2 ∷ [])  -- between two
+    ∷ run 0x80000000 64 (words (0x00500093 ∷ 0x0000100F ∷ 0x00500093 ∷ [])) 4099 0 (88 ∷ 2 ∷ [])  -- between two
     (framed (dump 41 0x4C8B9300000000_4981C205000000_4C899308000000_48B80800008000000000_48BA0200000000000000))
-    ∷ run 0x80000000 64 (words (0x00000013 ∷ 0x0000100F ∷ [])) 2243 0 (81 ∷ 2 ∷ [])  -- the run's last
+    ∷ run 0x80000000 64 (words (0x00000013 ∷ 0x0000100F ∷ [])) 4099 0 (81 ∷ 2 ∷ [])  -- the run's last
     (framed (dump 34 0x4C8B9300000000_4981C200000000_48B80800008000000000_48BA0200000000000000))
-    ∷ run 0xFFFFFFFFFFFFFFFC 64 (words (0x0000100F ∷ 0x00500093 ∷ [])) 2243 0 (67 ∷ 1 ∷ [])  -- RAX gets 0
+    ∷ run 0xFFFFFFFFFFFFFFFC 64 (words (0x0000100F ∷ 0x00500093 ∷ [])) 4099 0 (67 ∷ 1 ∷ [])  -- RAX gets 0
     (framed (dump 20 0x48B80000000000000000_48BA0100000000000000))
-    ∷ run 0x80000000 64 (words (0x0000100F ∷ []) ++ 0x0001 ∷ []) 2243 0 (67 ∷ 1 ∷ [])  -- a halfword behind
+    ∷ run 0x80000000 64 (words (0x0000100F ∷ []) ++ 0x0001 ∷ []) 4099 0 (67 ∷ 1 ∷ [])  -- a halfword behind
     (framed (dump 20 0x48B80400008000000000_48BA0100000000000000))
-    ∷ run 0x80000000 64 (copies 63 (words (0x01FF1EBB ∷ [])) ++ words (0x0000100F ∷ [])) 2243 0 (2209 ∷ 64 ∷ [])  -- the 64th, SLLW before
+    ∷ run 0x80000000 64 (copies 63 (words (0x01FF1EBB ∷ [])) ++ words (0x0000100F ∷ [])) 4099 0 (2209 ∷ 64 ∷ [])  -- the 64th, SLLW before
     (framed (copies 63 (dump 34 0x4C8B93F0000000_4C8B9BF8000000_4C89D9_4883E11F_41D3E2_4D63D2_4C8993E8000000)
     ++ dump 20 0x48B80001008000000000_48BA4000000000000000))
-    ∷ run 0x80000000 64 (copies 64 (words (0x0000000F ∷ []))) 2243 0 (67 ∷ 64 ∷ [])  -- 64 times FENCE
+    ∷ run 0x80000000 64 (copies 64 (words (0x0000000F ∷ []))) 4099 0 (67 ∷ 64 ∷ [])  -- 64 times FENCE
     (framed (dump 20 0x48B80001008000000000_48BA4000000000000000))
-    ∷ run 0x80000000 64 (copies 64 (words (0x0000100F ∷ []))) 2243 0 (67 ∷ 1 ∷ [])  -- 64 times FENCE.I
+    ∷ run 0x80000000 64 (copies 64 (words (0x0000100F ∷ []))) 4099 0 (67 ∷ 1 ∷ [])  -- 64 times FENCE.I
     (framed (dump 20 0x48B80400008000000000_48BA0100000000000000)) ∷ []
 
 -- every bit of a word by itself, then all of them

@@ -7,10 +7,11 @@ use native.Mathlib.Omega.{arith}
 use lib.Dec.{eqb}
 use lib.ListN.{length}
 use Rattle.agreement.specs.Common.{Helper, Helper.forAccess, Helper.forHalfword}
-use Rattle.agreement.specs.Riscv.Code.{Code}
+use Rattle.agreement.specs.Riscv.Code.{Code, runAt}
 use Rattle.agreement.specs.Riscv.Run.{GuestState, Stop.called, help}
 use Rattle.agreement.specs.Statement.Agreement.{Helped, isRefused, own}
 use Rattle.agreement.specs.Statement.Machine.{Call, Event, RegisterBytes, Visit, enter}
+use Rattle.agreement.specs.Statement.Steps.{undivided, unlessDividing}
 use Rattle.agreement.specs.Translation.Replies.{walked}
 use Rattle.agreement.specs.Translation.Walk.{instrs}
 use Rattle.agreement.specs.X86.Form.{R12, R13, R14, R15, R8, RAX, RBP, RBX, RCX, RDI, RDX, RSI, RSP}
@@ -44,7 +45,7 @@ not-written P x (w ∷ ws) n h = go (P w) refl (eqb w x) refl (not-written P x w
 
 -- the stack at entry is the rest of memory: neither the register bytes nor the block stand there
 stack-is : (sp : ℕ) (g : Code) (hs : List ℕ) (h : State → State) (code : List ℕ) (rb : RegisterBytes) (i : ℕ)
-    → Allowed sp → length code ≤ 2243
+    → Allowed sp → length code ≤ 4099
     → enter (turnOf sp g hs h) code rb .mem (sp + i) ≡ (sp + i) % 256
 unfolding enter
 stack-is sp g hs h code rb i s l =
@@ -52,11 +53,15 @@ stack-is sp g hs h code rb i s l =
     ∙ overlay-out (λ a. a % 256) 0x10000 256 rb (sp + i) (λ j k. omega (arith, s .above))
 
 return-address : (sp : ℕ) (g : Code) (hs : List ℕ) (h : State → State) (code : List ℕ) (rb : RegisterBytes)
-    → Allowed sp → length code ≤ 2243
+    → Allowed sp → length code ≤ 4099
     → read 8 (enter (turnOf sp g hs h) code rb .mem) sp ≡ read 8 (λ a. a % 256) sp
 return-address sp g hs h code rb s l =
     read-ext 8 (enter (turnOf sp g hs h) code rb .mem) (λ a. a % 256) sp (omega (arith, s .fits)) (λ i k.
     let z : at sp i ≡ sp + i = omega (arith, s .fits) in rw z (stack-is sp g hs h code rb i s l))
+
+-- no word of a turn's run divides
+abbrev Undivided : ℕ → Code → List ℕ → Type 0
+Undivided pc g hs = undivided 64 (runAt g pc (length hs)) ≡ true
 
 -- an entry at the stack pointer sp, of a block of n instructions, returning to the address a: RBX, RBP and R12 to R15 hold
 -- 100 and their number; slot x0 and the first and last of the 8 bytes below the saved registers are not written
@@ -85,8 +90,8 @@ pub record Numbers (sp a : ℕ) (g : Code) (hs : List ℕ) (h : State → State)
   pub pad-end : own (turnOf sp g hs h) (sp - 49) ≡ false
 
 entry-says : (sp a n : ℕ) (g : Code) (hs : List ℕ) (h : State → State) (m : GuestState) (e : Event) (w : WasEntered m (turnOf sp g hs h) e)
-    → Numbers sp a g hs h → length (instrs 0x1111 0x2222 (walked (m .pc) 64 hs)) ≡ n → EntrySays sp a n (w .v)
-entry-says sp a n g hs h m e w k s = record {
+    → Numbers sp a g hs h → length (instrs 0x1111 0x2222 (walked (m .pc) 64 hs)) ≡ n → Undivided (m .pc) g hs → EntrySays sp a n (w .v)
+entry-says sp a n g hs h m e w k s d = record {
   x0-entry = w .returns .entry-x0;
   x0-exit = w .returns .exit-x0;
   rip = w .returns .rip ∙ rw (w .entry) (return-address sp g hs h (w .b .code) (w .rb) (k .allowed) short ∙ k .address);
@@ -97,13 +102,13 @@ entry-says sp a n g hs h m e w k s = record {
   r13 = w .returns .r13 ∙ rw (w .entry) (held R13 refl refl);
   r14 = w .returns .r14 ∙ rw (w .entry) (held R14 refl refl);
   r15 = w .returns .r15 ∙ rw (w .entry) (held R15 refl refl);
-  steps = w .returns .steps ∙ s;
+  steps = omega (arith, w .returns .steps .exact d, s);
   x0-unwritten = not-written (own (turnOf sp g hs h)) 0x10000 (w .v .log) (k .x0) (w .returns .log);
   pad-unwritten = not-written (own (turnOf sp g hs h)) (sp - 56) (w .v .log) (k .pad) (w .returns .log);
   pad-end-unwritten = not-written (own (turnOf sp g hs h)) (sp - 49) (w .v .log) (k .pad-end) (w .returns .log);
 }
   where
-    short : length (w .b .code) ≤ 2243
+    short : length (w .b .code) ≤ 4099
     short = no-longer (turnOf sp g hs h) (w .pc) (w .b) (w .reply-is)
 
     held : (r : ℕ) → eqb r RSP ≡ false → eqb r RDI ≡ false → enter (turnOf sp g hs h) (w .b .code) (w .rb) .regs r ≡ 100 + r
@@ -155,13 +160,17 @@ helper-instructions : length (instrs 0x1111 0x2222 (walked (m0 .pc) 64 (helperTu
 unfolding translations immediates words
 helper-instructions = refl
 
+helper-undivided : Undivided (m0 .pc) (helperTurn .code) (helperTurn .made)
+unfolding reads-a-turn undivided unlessDividing
+helper-undivided = refl
+
 pub helper-says : {e : Event} (w : WentHelped m0 helperTurn e) → HelperSays (w .was .pc) (w .was .b .count) (w .was .v) (w .call)
 unfolding reads-a-turn
 helper-says w =
     let k = w .says in
     let j = instruction-is (k .h) forAccess (k .i) 0x0000B083 (sym (k .stop)) in
     record {
-      entry = entry-says 0x30008 0x0F0E0D0C0B0A0908 32 _ _ _ m0 _ (w .was) helper-numbers helper-instructions;
+      entry = entry-says 0x30008 0x0F0E0D0C0B0A0908 32 _ _ _ m0 _ (w .was) helper-numbers helper-instructions helper-undivided;
       accepted = w .was .returns .accepted;
       entry-pc = w .was .returns .entry-pc;
       entry-x1 = w .was .returns .entry-slots 1 (omega arith) ∙ (unfold read in refl);
@@ -212,13 +221,17 @@ plain-instructions : (a : State) → length (instrs 0x1111 0x2222 (walked (m2 a 
 unfolding translations immediates words leaves
 plain-instructions a = refl
 
+plain-undivided : (a : State) → Undivided (m2 a .pc) (plainTurn .code) (plainTurn .made)
+unfolding reads-a-turn undivided unlessDividing
+plain-undivided a = refl
+
 pub plain-says : {e : Event} (a : State) (w : WentPlainly (m2 a) plainTurn e) → PlainSays (w .was .pc) (w .was .b .count) (w .was .v)
 unfolding reads-a-turn
 plain-says a w =
     let k = w .says in
     let s = after-three a in
     record {
-      entry = entry-says 0x30018 0x1F1E1D1C1B1A1918 32 _ _ _ (m2 a) _ (w .was) plain-numbers (plain-instructions a);
+      entry = entry-says 0x30018 0x1F1E1D1C1B1A1918 32 _ _ _ (m2 a) _ (w .was) plain-numbers (plain-instructions a) (plain-undivided a);
       entry-pc = w .was .returns .entry-pc;
       entry-x1 = w .was .returns .entry-slots 1 (omega arith) ∙ x1-is a;
       rax = k .rax ∙ s .pc;
@@ -257,6 +270,10 @@ halfword-instructions : (m : GuestState) → length (instrs 0x1111 0x2222 (walke
 unfolding translations immediates words
 halfword-instructions m = refl
 
+halfword-undivided : (m : GuestState) → m .pc ≡ 0x80000024 → Undivided (m .pc) (halfwordTurn .code) (halfwordTurn .made)
+unfolding reads-a-turn undivided
+halfword-undivided m e = rw e
+
 pub halfword-says : {e : Event} (m : GuestState) (w : WentHelped m halfwordTurn e) → m .pc ≡ 0x80000024
     → HalfwordSays (w .was .b .count) (w .was .v) (w .call)
 unfolding leaves
@@ -264,7 +281,8 @@ halfword-says m w e =
     let k : Helped halfwordTurn (w .was .b .count) (w .was .v) (w .call) (help (m .registers) 0x80000024 forHalfword 0x4501) =
     rw (fourth-reads m e) at (w .says) in
     let j = instruction-is (k .h) forHalfword (k .i) 0x4501 (sym (k .stop)) in
-    let s = entry-says 0xFFFFFFFFFFFFFFF8 0xFFFEFDFCFBFAF9F8 28 _ _ _ m _ (w .was) halfword-numbers (halfword-instructions m) in
+    let s = entry-says 0xFFFFFFFFFFFFFFF8 0xFFFEFDFCFBFAF9F8 28 _ _ _ m _ (w .was) halfword-numbers (halfword-instructions m)
+    (halfword-undivided m e) in
     record {
       entry = s;
       stack = s .rsp;

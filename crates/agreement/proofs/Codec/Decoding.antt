@@ -7,21 +7,22 @@ use Prim.Native.Nat.{_%_, _*_, _+_, _/_, _<_, _^_, _≤_, suc, zero, ℕ}
 use native.Mathlib.Decide.{decLe, ℕ-discrete}
 use native.Mathlib.Nat.{pow-suc, pow-zero}
 use native.Mathlib.Omega.{arith}
-use lib.Dec.{eqb}
+use lib.Dec.{eqb, ltb}
 use Rattle.agreement.specs.Riscv.Run.{Stop.plain}
 use Rattle.agreement.specs.X86.Decode.{Answer, Operand, aluOf, ccOf, decode, imm, loaded, memory, modrm, moved, onReg, only, opcode0F}
-use Rattle.agreement.specs.X86.Decode.{opcode1, pick, shiftOf, sib, widthOf}
+use Rattle.agreement.specs.X86.Decode.{opcode1, pick, shiftOf, sib, widthOf, mulDivOf}
 use Rattle.agreement.specs.X86.Decode.Operand.{mem, reg}
-use Rattle.agreement.specs.X86.Encode.{ccNumber, digit, encode, modMem, modReg, rex, shiftDigit}
-use Rattle.agreement.specs.X86.Form.{Alu, Cc, Instr, Ok, Shift, Width}
+use Rattle.agreement.specs.X86.Encode.{ccNumber, digit, encode, modMem, modReg, rex, shiftDigit, mulDivDigit}
+use Rattle.agreement.specs.X86.Form.{Alu, Cc, Instr, Ok, Shift, Width, MulDiv}
 use Rattle.agreement.specs.X86.Form.Alu.{add, and, cmp, or, sub, xor}
 use Rattle.agreement.specs.X86.Form.Cc.{AE, B, E, GE, L, NE}
 use Rattle.agreement.specs.X86.Form.Instr.{alu, aluImm32, aluImm8, callRax, cmov, imul, load, mov, movImm64, movsxd, movzx, pop, push}
-use Rattle.agreement.specs.X86.Form.Instr.{ret, setccAl, shiftCl, shiftImm8, store}
+use Rattle.agreement.specs.X86.Form.Instr.{ret, setccAl, shiftCl, shiftImm8, store, cqo, jcc, mulDiv}
 use Rattle.agreement.specs.X86.Form.Shift.{sar, shl, shr}
 use Rattle.agreement.specs.X86.Form.Width.{r32, r64}
+use Rattle.agreement.specs.X86.Form.MulDiv.{sdiv, smul, udiv, umul}
 use Rattle.agreement.specs.X86.Memory.{at, bytesOf}
-use Rattle.agreement.proofs.Laws.Tests.{eqb-no, eqb-yes}
+use Rattle.agreement.proofs.Laws.Tests.{eqb-no, eqb-yes, leb-yes}
 
 -- REX.W
 abbrev wide : Width → ℕ
@@ -148,6 +149,19 @@ shiftDigit-lt shl = omega arith
 shiftDigit-lt shr = omega arith
 shiftDigit-lt sar = omega arith
 
+muldiv-of : (op : MulDiv) (k : MulDiv → Answer) → mulDivOf (mulDivDigit op) k ≡ k op
+unfolding mulDivOf pick only
+muldiv-of umul k = refl
+muldiv-of smul k = refl
+muldiv-of udiv k = refl
+muldiv-of sdiv k = refl
+
+pub mulDivDigit-lt : (op : MulDiv) → mulDivDigit op < 8
+mulDivDigit-lt umul = omega arith
+mulDivDigit-lt smul = omega arith
+mulDivDigit-lt udiv = omega arith
+mulDivDigit-lt sdiv = omega arith
+
 one-byte : (v : ℕ) (rest : List ℕ) (k : ℕ → List ℕ → Answer) → imm 1 (v ∷ rest) k ≡ k v rest
 unfolding imm
 one-byte v rest k = let e : v + 256 * 0 ≡ v = omega arith in rw e
@@ -188,6 +202,20 @@ at-set E rest = refl
 at-set NE rest = refl
 at-set L rest = refl
 at-set GE rest = refl
+
+at-jump : (c : Cc) (d : ℕ) (rest : List ℕ)
+    → decode ((112 + ccNumber c) ∷ d ∷ rest) ≡ imm 1 (d ∷ rest) (λ v r. only (ltb v 128) (some (jcc c v, r)))
+unfolding decode opcode1 ccOf pick only
+at-jump B d rest = refl
+at-jump AE d rest = refl
+at-jump E d rest = refl
+at-jump NE d rest = refl
+at-jump L d rest = refl
+at-jump GE d rest = refl
+
+forward : (d : ℕ) (x : Answer) → d < 128 → only (ltb d 128) x ≡ x
+unfolding only
+forward d x l = rw (leb-yes (suc d) 128 l)
 
 at-push : (r : ℕ) (rest : List ℕ) → r < 16 → opcode1 0 0 (r / 8) ((80 + r % 8) ∷ rest) ≡ some (push r, rest)
 unfolding opcode1 pick only
@@ -255,5 +283,10 @@ round (movzx d s) rest h = rw append-assoc (rex-any r64 d s _ _ (h .0) (h .1) re
 round (cmov c d s) rest h =
     rw append-assoc (rex-any r64 d s _ _ (h .0) (h .1) refl
     ∙ at-cmov c (d / 8) (s / 8) (modReg d s ∷ rest) ∙ modrm-reg d s rest _ (h .0) (h .1))
+round (mulDiv w op r) rest h =
+    rw append-assoc (rex-any w 0 r _ _ (omega arith) h refl
+    ∙ modrm-digit (mulDivDigit op) r rest _ (mulDivDigit-lt op) h ∙ muldiv-of op _ ∙ rw width-wide)
+round (cqo w) rest h = rw append-assoc (rex-any w 0 0 _ _ (omega arith) (omega arith) refl ∙ rw width-wide)
+round (jcc c d) rest h = at-jump c d rest ∙ one-byte d rest _ ∙ forward d _ h
 round callRax rest h = at-call rest
 round ret rest h = at-ret rest

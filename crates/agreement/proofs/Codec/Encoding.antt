@@ -7,19 +7,20 @@ use Prim.Native.Nat.{_%_, _*_, _+_, _/_, _<_, _^_, suc, zero, ℕ}
 use native.Mathlib.Decide.{ℕ-discrete}
 use native.Mathlib.Nat.{pow-suc, pow-zero}
 use native.Mathlib.Omega.{arith}
-use lib.Dec.{eqb, eqb→eq, ltb}
+use lib.Dec.{eqb, eqb→eq, ltb, ltb→lt}
 use Rattle.agreement.specs.Laws.{Decodes, Encodes}
 use Rattle.agreement.specs.X86.Decode.{Answer, Bytes, Operand, aluOf, ccOf, decode, imm, loaded, memory, modrm, moved, onReg, only}
-use Rattle.agreement.specs.X86.Decode.{opcode0F, opcode1, pick, shiftOf, sib, widthOf}
+use Rattle.agreement.specs.X86.Decode.{opcode0F, opcode1, pick, shiftOf, sib, widthOf, mulDivOf}
 use Rattle.agreement.specs.X86.Decode.Operand.{mem, reg}
-use Rattle.agreement.specs.X86.Encode.{ccNumber, digit, encode, modMem, modReg, rex, shiftDigit}
-use Rattle.agreement.specs.X86.Form.{Alu, Cc, Instr, Ok, Shift, Width}
+use Rattle.agreement.specs.X86.Encode.{ccNumber, digit, encode, modMem, modReg, rex, shiftDigit, mulDivDigit}
+use Rattle.agreement.specs.X86.Form.{Alu, Cc, Instr, Ok, Shift, Width, MulDiv}
 use Rattle.agreement.specs.X86.Form.Alu.{add, and, cmp, or, sub, xor}
 use Rattle.agreement.specs.X86.Form.Cc.{AE, B, E, GE, L, NE}
 use Rattle.agreement.specs.X86.Form.Instr.{alu, aluImm32, aluImm8, callRax, cmov, imul, load, mov, movImm64, movsxd, movzx, pop, push}
-use Rattle.agreement.specs.X86.Form.Instr.{ret, setccAl, shiftCl, shiftImm8, store}
+use Rattle.agreement.specs.X86.Form.Instr.{ret, setccAl, shiftCl, shiftImm8, store, cqo, jcc, mulDiv}
 use Rattle.agreement.specs.X86.Form.Shift.{sar, shl, shr}
 use Rattle.agreement.specs.X86.Form.Width.{r32, r64}
+use Rattle.agreement.specs.X86.Form.MulDiv.{sdiv, smul, udiv, umul}
 use Rattle.agreement.specs.X86.Memory.{bytesOf}
 use Rattle.agreement.proofs.Codec.Decoding.{round}
 use Rattle.agreement.proofs.Laws.Tests.{eqb-no, eqb-yes, of-true}
@@ -211,6 +212,10 @@ shifts : Names Shift shiftDigit shiftOf
 unfolding shiftOf
 shifts W n k f = pick-is n 4 (f shl) (pick-is n 5 (f shr) (only-is n 7 (f sar)))
 
+mulDivs : Names MulDiv mulDivDigit mulDivOf
+unfolding mulDivOf
+mulDivs W n k f = pick-is n 4 (f umul) (pick-is n 5 (f smul) (pick-is n 6 (f udiv) (only-is n 7 (f sdiv))))
+
 ccs : Names Cc ccNumber ccOf
 unfolding ccOf
 ccs W n k f =
@@ -370,6 +375,26 @@ module _ (w r b : ℕ) (lw : w < 2) (lr : r < 2) (lb : b < 2) where
           let d0 : d ≡ 0 = omega arith in
           some-right callRax _ rest (refl, tt) (bare e (0xFF ∷ bs) ∙ rw (z, g2, d0)))
 
+  -- CQO has no operand; a jump has a displacement that is not negative
+  cqo-arm : (bs : List ℕ) → 2 * r + b ≡ 0 → Arm (0x99 ∷ bs) (some (cqo (widthOf w), bs))
+  unfolding Ok
+  cqo-arm bs e =
+      let p : r ≡ 0 = omega arith in
+      let q : b ≡ 0 = omega arith in
+      some-right (cqo (widthOf w)) _ bs (refl, tt) (joined (widthOf w) 0 0 (0x99 ∷ bs) (0x99 ∷ []) bs refl (rw p) (rw q) refl)
+
+  jump-arm : (o : ℕ) (bs : List ℕ) → Bytes bs → 4 * w + 2 * r + b ≡ 0 → o / 16 ≡ 7
+      → Arm (o ∷ bs) (ccOf (o % 16) (λ c. imm 1 bs (λ d rest. only (ltb d 128) (some (jcc c d, rest)))))
+  unfolding Ok
+  jump-arm o bs h e q = ccs _ (o % 16) _ (λ c f. imm-right 1 bs _ h (λ d rest l s z. only-right (ltb d 128) (λ t. by c f d rest l z t)))
+    where
+      by : (c : Cc) → o % 16 ≡ ccNumber c → (d : ℕ) (rest : List ℕ) → d < 256 ^ 1 → bs ≡ bytesOf 1 d ++ rest → ltb d 128 ≡ true
+          → Arm (o ∷ bs) (some (jcc c d, rest))
+      by c f d rest l z t =
+          let n : o ≡ 112 + ccNumber c = omega arith in
+          let y : bs ≡ d ∷ rest = z ∙ ap (λ (l : List ℕ). l ++ rest) (byte d l) in
+          some-right (jcc c d) _ rest (refl, ltb→lt d 128 (of-true (ltb d 128) t)) (bare e (o ∷ bs) ∙ rw (n, y))
+
   -- the opcodes of two bytes, and then those of one, in the order of the decoder
   opcode0F-right : (bs : List ℕ) → Bytes bs → Arm (0x0F ∷ bs) (opcode0F w r b bs)
   unfolding opcode0F Bytes Ok
@@ -414,7 +439,11 @@ module _ (w r b : ℕ) (lw : w < 2) (lr : r < 2) (lb : b < 2) where
       two-regs (λ s g. movsxd g s) r64 (0x63 ∷ []) bs (w-one f) t (λ s g k l. (refl, (l, k)))))) (
       pick-is o 0x0F (λ e. rw e (opcode0F-right bs t)) (
       pick-is o 0xFF (λ e. only-is (4 * w + 2 * r + b) 0 (λ f. rw e (call-arm bs t f))) (
-      only-is o 0xC3 (λ e. only-is (4 * w + 2 * r + b) 0 (λ f. some-right ret _ bs (refl, tt) (bare f (o ∷ bs) ∙ rw e))))))))))))))))
+      pick-is o 0xF7 (λ e. only-is r 0 (λ f. rw e (
+      one-reg mulDivDigit mulDivOf (λ op d v. mulDiv (widthOf w) op d) (widthOf w) 0xF7 0 bs mulDivs refl f t (λ a d v l m. (refl, l))))) (
+      pick-is o 0x99 (λ e. only-is (2 * r + b) 0 (λ f. rw e (cqo-arm bs f))) (
+      pick-is (o / 16) 7 (λ e. only-is (4 * w + 2 * r + b) 0 (λ f. jump-arm o bs t f e)) (
+      only-is o 0xC3 (λ e. only-is (4 * w + 2 * r + b) 0 (λ f. some-right ret _ bs (refl, tt) (bare f (o ∷ bs) ∙ rw e)))))))))))))))))))
 
 -- the bits W, R and B of a REX prefix, which it adds to 0x40
 abbrev bits : ℕ → ℕ

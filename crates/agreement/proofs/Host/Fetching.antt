@@ -8,10 +8,10 @@ use native.Mathlib.Omega.{arith}
 use lib.Dec.{eqb}
 use lib.ListN.{length, length-append}
 use Rattle.agreement.specs.X86.Encode.{encode, modMem, rex}
-use Rattle.agreement.specs.X86.Execute.{accesses, exec}
+use Rattle.agreement.specs.X86.Execute.{accesses, exec, faults}
 use Rattle.agreement.specs.X86.Form.{Instr, Ok, Width}
 use Rattle.agreement.specs.X86.Form.Instr.{alu, aluImm32, aluImm8, callRax, cmov, imul, load, mov, movImm64, movsxd, movzx, pop, push}
-use Rattle.agreement.specs.X86.Form.Instr.{ret, setccAl, shiftCl, shiftImm8, store}
+use Rattle.agreement.specs.X86.Form.Instr.{ret, setccAl, shiftCl, shiftImm8, store, cqo, jcc, mulDiv}
 use Rattle.agreement.specs.X86.Form.Width.{r32, r64}
 use Rattle.agreement.specs.X86.Memory.{Memory, at, bytesOf, up}
 use Rattle.agreement.specs.X86.State.{Flags, Permissions, State}
@@ -90,6 +90,9 @@ short (movsxd d s) = simp length-append (omega (arith, rex-len r64 d s))
 short (setccAl c) = omega arith
 short (movzx d s) = simp length-append (omega (arith, rex-len r64 d s))
 short (cmov c d s) = simp length-append (omega (arith, rex-len r64 d s))
+short (mulDiv w op r) = simp length-append (omega (arith, rex-len w 0 r))
+short (cqo w) = simp length-append (omega (arith, rex-len w 0 0))
+short (jcc c d) = omega arith
 short callRax = omega arith
 short ret = omega arith
 
@@ -115,7 +118,7 @@ abbrev pub writes : Instr → State → List ℕ
 writes i s = accesses i s .written
 
 pub step-is : (undefined : State → Flags) (ok : Permissions) (i : Instr) (s : State)
-    → Ok i → Holds (ok .fetch) (s .mem) (s .rip) (encode i) → all (ok .read) (reads i s) ≡ true
+    → Ok i → Holds (ok .fetch) (s .mem) (s .rip) (encode i) → faults i s ≡ false → all (ok .read) (reads i s) ≡ true
     → all (ok .write) (writes i s) ≡ true → step undefined ok s ≡ some (one undefined i s, writes i s)
 unfolding step did one
-step-is undefined ok i s o h r w = rw (next-is ok i s o h) (rw (r, did) (rw w))
+step-is undefined ok i s o h f r w = rw (next-is ok i s o h) (rw (f, did) (rw (r, did) (rw w)))

@@ -11,17 +11,24 @@ use lib.ListN.{length, length-append}
 use lib.Pow.{low}
 use Rattle.agreement.specs.Statement.Agreement.{after}
 use Rattle.agreement.specs.X86.Encode.{bytes, encode}
-use Rattle.agreement.specs.X86.Execute.{accesses, below, exec, operand}
-use Rattle.agreement.specs.X86.Form.{Instr, Ok}
+use Rattle.agreement.specs.X86.Execute.{accesses, below, exec, operand, divisionFaults, faults}
+use Rattle.agreement.specs.X86.Form.{Instr, Ok, MulDiv}
 use Rattle.agreement.specs.X86.Form.Instr.{alu, aluImm32, aluImm8, callRax, cmov, imul, load, mov, movImm64, movsxd, movzx, pop, push}
-use Rattle.agreement.specs.X86.Form.Instr.{ret, setccAl, shiftCl, shiftImm8, store}
+use Rattle.agreement.specs.X86.Form.Instr.{ret, setccAl, shiftCl, shiftImm8, store, cqo, jcc, mulDiv}
+use Rattle.agreement.specs.X86.Form.MulDiv.{sdiv, smul, udiv, umul}
 use Rattle.agreement.specs.X86.Memory.{Memory, at, span, up, write}
 use Rattle.agreement.specs.X86.State.{Flags, Permissions, State}
 use Rattle.agreement.specs.X86.Step.{Fetch, Goes, Goes.done, Goes.more, all, did, next, past, step}
-use Rattle.agreement.proofs.Host.Fetching.{Holds, holds-ext, holds-split, next-is, one, reads, step-is, writes}
+use Rattle.agreement.proofs.Host.Fetching.{Holds, fetch, holds-ext, holds-split, next-is, one, reads, step-is, writes}
 use Rattle.agreement.proofs.Host.Memory.{up-at, write-out}
 
--- an instruction that goes on to the one behind it: all but CALL and RET
+-- an instruction that goes on to the one behind it in every state: all but divisions, jumps, CALL and RET
+abbrev pub multiplies : MulDiv → Bool
+multiplies umul = true
+multiplies smul = true
+multiplies udiv = false
+multiplies sdiv = false
+
 abbrev pub straight : Instr → Bool
 straight (push r) = true
 straight (pop r) = true
@@ -39,16 +46,19 @@ straight (movsxd d s) = true
 straight (setccAl c) = true
 straight (movzx d s) = true
 straight (cmov c d s) = true
+straight (mulDiv w op r) = multiplies op
+straight (cqo w) = true
+straight (jcc c d) = false
 straight callRax = false
 straight ret = false
 
-not-call : (i : Instr) → T (straight i) → i ≢ callRax
+pub not-call : (i : Instr) → T (straight i) → i ≢ callRax
 not-call i t e = subst (λ (x : Instr). T (straight x)) e t
 
-not-ret : (i : Instr) → T (straight i) → i ≢ ret
+pub not-ret : (i : Instr) → T (straight i) → i ≢ ret
 not-ret i t e = subst (λ (x : Instr). T (straight x)) e t
 
-exec-rip : (undefined : State → Flags) (i : Instr) (s : State) → T (straight i) → exec undefined i s .rip ≡ s .rip
+pub exec-rip : (undefined : State → Flags) (i : Instr) (s : State) → T (straight i) → exec undefined i s .rip ≡ s .rip
 unfolding exec
 exec-rip undefined (push r) s t = refl
 exec-rip undefined (pop r) s t = refl
@@ -66,8 +76,69 @@ exec-rip undefined (movsxd d r) s t = refl
 exec-rip undefined (setccAl c) s t = refl
 exec-rip undefined (movzx d r) s t = refl
 exec-rip undefined (cmov c d r) s t = refl
+exec-rip undefined (mulDiv w umul r) s t = refl
+exec-rip undefined (mulDiv w smul r) s t = refl
+exec-rip undefined (mulDiv w udiv r) s t = absurd t
+exec-rip undefined (mulDiv w sdiv r) s t = absurd t
+exec-rip undefined (cqo w) s t = refl
+exec-rip undefined (jcc c d) s t = absurd t
 exec-rip undefined callRax s t = absurd t
 exec-rip undefined ret s t = absurd t
+
+-- it does not fault
+pub calm : (i : Instr) (s : State) → T (straight i) → faults i s ≡ false
+unfolding faults divisionFaults
+calm (push r) s t = refl
+calm (pop r) s t = refl
+calm (mov d r) s t = refl
+calm (movImm64 d v) s t = refl
+calm (load d b o) s t = refl
+calm (store b o r) s t = refl
+calm (alu w op d r) s t = refl
+calm (aluImm32 op d v) s t = refl
+calm (aluImm8 op d v) s t = refl
+calm (shiftCl w op d) s t = refl
+calm (shiftImm8 w op d v) s t = refl
+calm (imul w d r) s t = refl
+calm (movsxd d r) s t = refl
+calm (setccAl c) s t = refl
+calm (movzx d r) s t = refl
+calm (cmov c d r) s t = refl
+calm (mulDiv w umul r) s t = refl
+calm (mulDiv w smul r) s t = refl
+calm (mulDiv w udiv r) s t = absurd t
+calm (mulDiv w sdiv r) s t = absurd t
+calm (cqo w) s t = refl
+calm (jcc c d) s t = absurd t
+calm callRax s t = absurd t
+calm ret s t = absurd t
+
+pub one-rip : (undefined : State → Flags) (i : Instr) (s : State) → T (straight i)
+    → one undefined i s .rip ≡ at (s .rip) (length (encode i))
+unfolding one past
+one-rip undefined i s t = exec-rip undefined i (past (length (encode i)) s) t
+
+-- one step, o bytes of the code before it
+pub record Stepped (undefined : State → Flags) (ok : Permissions) (c : ℕ) (code : List ℕ) (i : Instr) (s : State) : Type 0 where
+  pub fetched : next ok s ≡ some (fetch i)
+  pub does : step undefined ok s ≡ some (one undefined i s, writes i s)
+  pub held : Holds (ok .fetch) (one undefined i s .mem) c code
+
+pub stepped : (undefined : State → Flags) (ok : Permissions) (c : ℕ) (code : List ℕ) (i : Instr) (pre post : List ℕ) (s : State)
+    → code ≡ pre ++ (encode i ++ post) → c < 2 ^ 64 → Ok i → faults i s ≡ false
+    → all (ok .read) (reads i s) ≡ true → all (ok .write) (writes i s) ≡ true
+    → ((j : ℕ) → j < length code → one undefined i s .mem (at c j) ≡ s .mem (at c j))
+    → Holds (ok .fetch) (s .mem) c code → s .rip ≡ at c (length pre) → Stepped undefined ok c code i s
+stepped undefined ok c code i pre post s q l o f a w k h r =
+    let h1 = holds-split (ok .fetch) (s .mem) c pre (encode i ++ post) l (rw q at h) in
+    let low : at c (length pre) < 2 ^ 64 = omega arith in
+    let h2 = holds-split (ok .fetch) (s .mem) (at c (length pre)) (encode i) post low (h1 .1) in
+    let hi : Holds (ok .fetch) (s .mem) (s .rip) (encode i) = rw r (h2 .0) in
+    record {
+      fetched = next-is ok i s o hi;
+      does = step-is undefined ok i s o hi f a w;
+      held = holds-ext (ok .fetch) (s .mem) (one undefined i s .mem) c code l k h;
+    }
 
 unfoldable pub run : (State → Flags) → List Instr → State → State
 run undefined [] s = s
@@ -88,6 +159,26 @@ trace undefined (i ∷ is) s = writes i s ++ trace undefined is (one undefined i
 unfoldable pub Fine : List Instr → Type 0
 Fine [] = Unit
 Fine (i ∷ is) = Ok i × T (straight i) × Fine is
+
+-- every instruction may be encoded
+unfoldable pub AllOk : List Instr → Type 0
+AllOk [] = Unit
+AllOk (i ∷ is) = Ok i × AllOk is
+
+pub ok-append : (xs ys : List Instr) → AllOk xs → AllOk ys → AllOk (xs ++ ys)
+unfolding AllOk
+ok-append [] ys p q = q
+ok-append (x ∷ xs) ys p q = (p .0, ok-append xs ys (p .1) q)
+
+pub ok-right : (xs ys : List Instr) → AllOk (xs ++ ys) → AllOk ys
+unfolding AllOk
+ok-right [] ys t = t
+ok-right (x ∷ xs) ys t = ok-right xs ys (t .1)
+
+pub fine-ok : (is : List Instr) → Fine is → AllOk is
+unfolding AllOk Fine
+fine-ok [] h = tt
+fine-ok (i ∷ is) h = (h .0, fine-ok is (h .2))
 
 -- n bytes from c are the same
 abbrev pub Kept : ℕ → ℕ → Memory → Memory → Type 0
@@ -116,23 +207,16 @@ ran undefined ok c code [] pre post s q l f a h r =
 ran undefined ok c code (i ∷ is) pre post s q l f a h r =
     let t : State = one undefined i s in
     let p : code ≡ pre ++ (encode i ++ (bytes is ++ post)) = rw q (simp append-assoc) in
-    let h1 = holds-split (ok .fetch) (s .mem) c pre (encode i ++ (bytes is ++ post)) l (rw p at h) in
-    let low : at c (length pre) < 2 ^ 64 = omega arith in
-    let h2 = holds-split (ok .fetch) (s .mem) (at c (length pre)) (encode i) (bytes is ++ post) low (h1 .1) in
-    let hi : Holds (ok .fetch) (s .mem) (s .rip) (encode i) = rw r (h2 .0) in
-    let h3 : Holds (ok .fetch) (t .mem) c code = holds-ext (ok .fetch) (s .mem) (t .mem) c code l (a .2) h in
-    let e : t .rip ≡ at c (length (pre ++ encode i)) = rips i s (f .1) ∙ rw r (rw (length-append pre (encode i)) (omega arith)) in
-    let next = ran undefined ok c code is (pre ++ encode i) post t (rw append-assoc p) l (f .2) (a .3) h3 e in
+    let st = stepped undefined ok c code i pre (bytes is ++ post) s p l (f .0) (calm i s (f .1)) (a .0) (a .1) (a .2) h r in
+    let e : t .rip ≡ at c (length (pre ++ encode i)) =
+    one-rip undefined i s (f .1) ∙ rw r (rw (length-append pre (encode i)) (omega arith)) in
+    let next = ran undefined ok c code is (pre ++ encode i) post t (rw append-assoc p) l (f .2) (a .3) (st .held) e in
     let d : length (pre ++ encode i) + length (bytes is) ≡ length pre + length (encode i ++ bytes is) = simp length-append (omega arith) in
-    let st : step undefined ok s ≡ some (t, writes i s) = step-is undefined ok i s (f .0) hi (a .0) (a .1) in
     record {
-      reached = more (next-is ok i s (f .0) hi) (not-call i (f .1)) (not-ret i (f .1)) st (next .reached);
+      reached = more (st .fetched) (not-call i (f .1)) (not-ret i (f .1)) (st .does) (next .reached);
       there = rw (← d) (next .there);
       held = next .held;
     }
-  where
-    rips : (i : Instr) (s : State) → T (straight i) → one undefined i s .rip ≡ at (s .rip) (length (encode i))
-    rips i s t = unfold one past in exec-rip undefined i (past (length (encode i)) s) t
 
 pub goes-append : (undefined : State → Flags) (ok : Permissions) {s t u : State} {n m : ℕ} {ws vs : List ℕ}
     → Goes undefined ok s n ws t → Goes undefined ok t m vs u → Goes undefined ok s (n + m) (ws ++ vs) u
@@ -222,6 +306,12 @@ unwritten undefined P (movsxd d r) s x n h e = refl
 unwritten undefined P (setccAl c) s x n h e = refl
 unwritten undefined P (movzx d r) s x n h e = refl
 unwritten undefined P (cmov c d r) s x n h e = refl
+unwritten undefined P (mulDiv w umul r) s x n h e = refl
+unwritten undefined P (mulDiv w smul r) s x n h e = refl
+unwritten undefined P (mulDiv w udiv r) s x n h e = refl
+unwritten undefined P (mulDiv w sdiv r) s x n h e = refl
+unwritten undefined P (cqo w) s x n h e = refl
+unwritten undefined P (jcc c d) s x n h e = refl
 unwritten undefined P ret s x n h e = refl
 unwritten undefined P (push r) s x n h e = out8 P (s .mem) (below s) (s .regs r) x (omega arith) h e
 unwritten undefined P (store b o r) s x n h e = out8 P (s .mem) (operand b o s) (s .regs r) x (omega arith) h e
@@ -241,20 +331,21 @@ step-inv undefined ok s t ws e = go (next ok s) refl e
   where
     go : (o : Option Fetch) → next ok s ≡ o → did undefined ok s o ≡ some (t, ws) → Step undefined ok s t ws
     go none q e = absurd (let z : _≡_ {A = ℕ} 0 1 = cc in omega arith)
-    go (some f) q e = by (all (ok .read) (reads (f .instr) s)) (all (ok .write) (writes (f .instr) s)) e
+    go (some f) q e = by (faults (f .instr) s) (all (ok .read) (reads (f .instr) s)) (all (ok .write) (writes (f .instr) s)) e
       where
         after : State × List ℕ
         after = (exec undefined (f .instr) (past (f .size) s), writes (f .instr) s)
 
-        may : Bool → Bool → Option (State × List ℕ)
-        may x y = elim x [ true ↦ elim y [ true ↦ some after | false ↦ none ] | false ↦ none ]
+        may : Bool → Bool → Bool → Option (State × List ℕ)
+        may z x y = elim z [ true ↦ none | false ↦ elim x [ true ↦ elim y [ true ↦ some after | false ↦ none ] | false ↦ none ] ]
 
-        by : (x y : Bool) → may x y ≡ some (t, ws) → Step undefined ok s t ws
-        by true true e =
+        by : (z x y : Bool) → may z x y ≡ some (t, ws) → Step undefined ok s t ws
+        by true x y e = absurd (let z : _≡_ {A = ℕ} 0 1 = cc in omega arith)
+        by false true true e =
             let r : _≡_ {A = State × List ℕ} (t, ws) after = cc in
             record { f = f; fetched = q; state = ap (λ (z : State × List ℕ). z .0) r; log = ap (λ (z : State × List ℕ). z .1) r }
-        by true false e = absurd (let z : _≡_ {A = ℕ} 0 1 = cc in omega arith)
-        by false y e = absurd (let z : _≡_ {A = ℕ} 0 1 = cc in omega arith)
+        by false true false e = absurd (let z : _≡_ {A = ℕ} 0 1 = cc in omega arith)
+        by false false y e = absurd (let z : _≡_ {A = ℕ} 0 1 = cc in omega arith)
 
 pub step-unlogged : (undefined : State → Flags) (ok : Permissions) (P : ℕ → Bool) (s t : State) (ws : List ℕ) (x : ℕ)
     → step undefined ok s ≡ some (t, ws) → all P ws ≡ true → P x ≡ false → t .mem x ≡ s .mem x

@@ -1,4 +1,4 @@
--- No block is shorter than 67 or longer than 2,243 bytes.
+-- No block is shorter than 67 or longer than 4,099 bytes.
 use mathlib.Core.Bool.{Bool, cond, false, true}
 use mathlib.Core.List.{List, [], _++_, _∷_}
 use mathlib.Core.Path.{_≡_, refl}
@@ -14,7 +14,7 @@ use Rattle.agreement.specs.Riscv.Instruction.{Branch, Instruction, Op, O
 use Rattle.agreement.specs.Riscv.Instruction.Instruction.{AUIPC, FENCE, FENCE·I, JAL, JALR, LUI, access, branch, op, opImm, other}
 use Rattle.agreement.specs.Riscv.Instruction.Instruction.{unmodelled}
 use Rattle.agreement.specs.Riscv.Instruction.Op.{ADD, ADDW, AND, MUL, MULW, OR, SLL, SLLW, SLT, SLTU, SRA, SRAW, SRL, SRLW, SUB, SUBW}
-use Rattle.agreement.specs.Riscv.Instruction.Op.{XOR}
+use Rattle.agreement.specs.Riscv.Instruction.Op.{XOR, DIV, DIVU, DIVUW, DIVW, MULH, MULHSU, MULHU, REM, REMU, REMUW, REMW}
 use Rattle.agreement.specs.Riscv.Instruction.OpImm.{ADDI, ADDIW, ANDI, ORI, SLLI, SLLIW, SLTI, SLTIU, SRAI, SRAIW, SRLI, SRLIW, XORI}
 use Rattle.agreement.specs.Translation.Emit.{bodyOp, bodyOpImm, closing, codeBranch, codeConst, codeJal, codeJalr, codeOp, codeOpImm}
 use Rattle.agreement.specs.Translation.Emit.{compare, leftover, loadReg, opening, passes, storeReg}
@@ -59,7 +59,7 @@ len-loads r q = refl
 pub len-compare : (r q : ℕ) → len (compare r q) ≡ 17
 len-compare r q = refl
 
-pub len-body-op : (o : Op) → len (bodyOp o) ≤ 13
+pub len-body-op : (o : Op) → len (bodyOp o) ≤ 42
 len-body-op ADD = omega arith
 len-body-op SUB = omega arith
 len-body-op SLL = omega arith
@@ -77,8 +77,19 @@ len-body-op SRLW = omega arith
 len-body-op SRAW = omega arith
 len-body-op MUL = omega arith
 len-body-op MULW = omega arith
+len-body-op MULH = omega arith
+len-body-op MULHSU = omega arith
+len-body-op MULHU = omega arith
+len-body-op DIV = omega arith
+len-body-op DIVU = omega arith
+len-body-op REM = omega arith
+len-body-op REMU = omega arith
+len-body-op DIVW = omega arith
+len-body-op DIVUW = omega arith
+len-body-op REMW = omega arith
+len-body-op REMUW = omega arith
 
-pub len-op : (o : Op) (d p q : ℕ) → len (codeOp o d p q) ≤ 34
+pub len-op : (o : Op) (d p q : ℕ) → len (codeOp o d p q) ≤ 63
 len-op o d p q =
     rw (len-append (loadReg R10 p ∷ loadReg R11 q ∷ []) (bodyOp o ++ storeReg d R10)) (rw (len-append (bodyOp o) (storeReg d R10))
     (omega (arith, len-loads p q, len-body-op o, len-store d)))
@@ -150,9 +161,9 @@ most (calls h i pc) = 63
 
 pub record Sized (n : ℕ) (p : Walked) : Type 0 where
   pub low : 35 ≤ len (p .code) + least (p .end)
-  pub high : len (p .code) + most (p .end) ≤ 34 * n + 35
+  pub high : len (p .code) + most (p .end) ≤ 63 * n + 35
 
-sized-before : (n : ℕ) (is : List Instr) (p : Walked) → len is ≤ 34 → Sized n p → Sized (suc n) (before is p)
+sized-before : (n : ℕ) (is : List Instr) (p : Walked) → len is ≤ 63 → Sized n p → Sized (suc n) (before is p)
 sized-before n is p l s = record {
   low = rw (len-append is (p .code)) (omega (arith, s .low));
   high = rw (len-append is (p .code)) (omega (arith, s .high));
@@ -187,7 +198,7 @@ sized-emit (op o) n pc w p s =
     (len-op o (Decode32.rd w) (Decode32.rs1 w) (Decode32.rs2 w)) s
 sized-emit (opImm o) n pc w p s =
     sized-before n (codeOpImm o (Decode32.rd w) (Decode32.rs1 w) (Decode32.imm32 w) (Decode32.shamt w) (Decode32.shamtW w)) p
-    (len-imm o (Decode32.rd w) (Decode32.rs1 w) (Decode32.imm32 w) (Decode32.shamt w) (Decode32.shamtW w)) s
+    (omega (arith, len-imm o (Decode32.rd w) (Decode32.rs1 w) (Decode32.imm32 w) (Decode32.shamt w) (Decode32.shamtW w))) s
 sized-emit LUI n pc w p s =
     sized-before n (codeConst (Decode32.rd w) (Decode32.immU w)) p (omega (arith, len-const (Decode32.rd w) (Decode32.immU w))) s
 sized-emit AUIPC n pc w p s =
@@ -246,7 +257,7 @@ len-opening : len opening ≡ 32
 len-opening = refl
 
 pub block-length : (h1 h2 n pc : ℕ) (hs : List ℕ)
-    → (67 ≤ len (instrs h1 h2 (walk n pc hs))) × (len (instrs h1 h2 (walk n pc hs)) ≤ 34 * n + 67)
+    → (67 ≤ len (instrs h1 h2 (walk n pc hs))) × (len (instrs h1 h2 (walk n pc hs)) ≤ 63 * n + 67)
 unfolding instrs
 block-length h1 h2 n pc hs =
     let p : Walked = walk n pc hs in

@@ -179,10 +179,10 @@ taken-alike = kind-is
 -- 4. Against the manual's listing: its rows that are taken stand before those that are not
 
 abbrev front : List Row
-front = singleRows ++ (branchRows ++ (accessRows ++ (opImmRows ++ opRows)))
+front = singleRows ++ (branchRows ++ (accessRows ++ (opImmRows ++ (opRows ++ opMRows))))
 
 abbrev back : List Row
-back = opMRows ++ environmentRows
+back = environmentRows
 
 abbrev keep : Instruction → Instruction
 keep i = cond (chosen i) i other

@@ -3,12 +3,12 @@ use mathlib.Core.Bool.{Bool, cond, false, true}
 use mathlib.Core.Path.{_∙_, _≡_, ap, sym}
 use Prim.Native.Nat.{_%_, _*_, _+_, _-_, _/_, _<_, _^_, _≤_, suc, ℕ}
 use native.Mathlib.Decide.{decLt}
-use native.Mathlib.Nat.{div-eq-of-lt, div-eq-of-lt-le, mod-lt, mul-div-cancel, mul-le-mul-right, mul-lt-mul-of-pos-right, pow-suc}
+use native.Mathlib.Nat.{div-eq-of-lt, div-eq-of-lt-le, mod-lt, mod-mod, mul-div-cancel, mul-le-mul-right, mul-lt-mul-of-pos-right, pow-suc}
 use native.Mathlib.Omega.{arith}
 use lib.Dec.{leb}
 use lib.Pow.{high, low, pow-add, pow-mono, pow-pos, shl-exact, shl-shr, shr-le, shr-lt, split}
 use Rattle.agreement.specs.Laws.{ShiftsArithmetic, SignExtends, SignExtendsByShifts}
-use Rattle.agreement.specs.Riscv.Instruction.{shiftRightArithmetic}
+use Rattle.agreement.specs.Riscv.Instruction.{shiftRightArithmetic, word}
 use Rattle.agreement.specs.X86.Execute.{below}
 use Rattle.agreement.specs.X86.Flags.{negative, sext, shifted}
 use Rattle.agreement.specs.X86.Form.{Shift.sar}
@@ -31,7 +31,7 @@ top-bit : (k a : ℕ) → a < 2 ^ suc k → 2 ^ k ≤ a → a / 2 ^ k ≡ 1
 top-bit k a h l = div-eq-of-lt-le (2 ^ k) (omega arith) (omega (arith, twice k))
 
 -- what is left of a complement when whole multiples of M are taken from it
-floor : (d q M r : ℕ) → r < M → ((d + q + 1) * M - 1 - (q * M + r)) / M ≡ d
+pub floor : (d q M r : ℕ) → r < M → ((d + q + 1) * M - 1 - (q * M + r)) / M ≡ d
 floor d q M r h = div-eq-of-lt-le M (omega arith) (omega arith)
 
 complement : (W K S a : ℕ) → W ≡ K * S → a < K → 0 < S → (W - 1 - a * S) / S ≡ K - 1 - a
@@ -138,3 +138,13 @@ sar-lt w a c h = go (negative w a)
     go : (t : Bool) → cond t (2 ^ w - 1 - (2 ^ w - 1 - a) / 2 ^ c) (a / 2 ^ c) < 2 ^ w
     go true = omega arith
     go false = omega (arith, shr-le a c)
+
+-- a 32-bit result through MOVSXD
+pub word-is : (a b : ℕ) → a % 2 ^ 32 ≡ b % 2 ^ 32 → sext 32 64 (a % 2 ^ 32) ≡ word b
+word-is a b e = rw e (sym (signExtend-is 31 (b % 2 ^ 32) (omega arith)))
+
+pub word-mod : (a : ℕ) → sext 32 64 (a % 2 ^ 32 % 2 ^ 32) ≡ word a
+word-mod a = word-is (a % 2 ^ 32) a (mod-mod a (2 ^ 32))
+
+pub word-lt : (a : ℕ) → word a < 2 ^ 64
+word-lt a = signExtend-lt 31 (a % 2 ^ 32) (omega arith) (omega arith)

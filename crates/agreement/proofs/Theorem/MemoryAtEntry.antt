@@ -11,17 +11,17 @@ use lib.Dec.{eqb, leb, ltb}
 use lib.ListN.{length}
 use Rattle.agreement.specs.Statement.Machine.{RegisterBytes}
 use Rattle.agreement.specs.X86.Decode.{Bytes}
-use Rattle.agreement.specs.X86.Encode.{bytes, ccNumber, encode, modMem, modReg, rex, shiftDigit}
+use Rattle.agreement.specs.X86.Encode.{bytes, ccNumber, encode, modMem, modReg, rex, shiftDigit, mulDivDigit}
 use Rattle.agreement.specs.X86.Form.{Cc, Instr, Ok, Width}
 use Rattle.agreement.specs.X86.Form.Cc.{AE, B, E, GE, L, NE}
 use Rattle.agreement.specs.X86.Form.Instr.{alu, aluImm32, aluImm8, callRax, cmov, imul, load, mov, movImm64, movsxd, movzx, pop, push}
-use Rattle.agreement.specs.X86.Form.Instr.{ret, setccAl, shiftCl, shiftImm8, store}
+use Rattle.agreement.specs.X86.Form.Instr.{ret, setccAl, shiftCl, shiftImm8, store, cqo, jcc, mulDiv}
 use Rattle.agreement.specs.X86.Form.Width.{r32, r64}
 use Rattle.agreement.specs.X86.Memory.{Memory, at, bytesOf, nth, overlay, read, up}
 use Rattle.agreement.proofs.Codec.Decoding.{digit-lt}
 use Rattle.agreement.proofs.Host.Fetching.{Holds}
 use Rattle.agreement.proofs.Host.Memory.{up-at}
-use Rattle.agreement.proofs.Host.Straight.{Fine}
+use Rattle.agreement.proofs.Host.Straight.{AllOk}
 use Rattle.agreement.proofs.Laws.Tests.{leb-no, leb-yes}
 
 -- 1. What the encoder writes are bytes
@@ -86,22 +86,11 @@ small-encode (movsxd d s) h = omega arith
 small-encode (setccAl c) h = omega (arith, cc-lt c)
 small-encode (movzx d s) h = omega arith
 small-encode (cmov c d s) h = omega (arith, cc-lt c)
+small-encode (mulDiv w op r) h = small-after w 0 r _ (omega arith) h (omega arith, (small-reg (mulDivDigit op) r, tt))
+small-encode (cqo w) h = small-after w 0 0 _ (omega arith) (omega arith) (omega arith, tt)
+small-encode (jcc c d) h = omega (arith, cc-lt c)
 small-encode callRax h = omega arith
 small-encode ret h = omega arith
-
-unfoldable pub AllOk : List Instr → Type 0
-AllOk [] = Unit
-AllOk (i ∷ is) = Ok i × AllOk is
-
-pub ok-append : (xs ys : List Instr) → AllOk xs → AllOk ys → AllOk (xs ++ ys)
-unfolding AllOk
-ok-append [] ys p q = q
-ok-append (x ∷ xs) ys p q = (p .0, ok-append xs ys (p .1) q)
-
-pub fine-ok : (is : List Instr) → Fine is → AllOk is
-unfolding AllOk Fine
-fine-ok [] h = tt
-fine-ok (i ∷ is) h = (h .0, fine-ok is (h .2))
 
 pub small-bytes : (is : List Instr) → AllOk is → Bytes (bytes is)
 unfolding AllOk Bytes

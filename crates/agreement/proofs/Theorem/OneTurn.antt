@@ -11,7 +11,7 @@ use Rattle.agreement.specs.Common.{Helper, Helper.forAccess, Helper.forH
 use Rattle.agreement.specs.Riscv.Run.{Feed, GuestState, Left, Read, Registers, Stop.called, Stop.plain, readTurn, reading, turn}
 use Rattle.agreement.specs.Translation.Emit.{addCount, closing, opening, passes}
 use Rattle.agreement.specs.Translation.Replies.{Block, Reply.block, blockOf, walked}
-use Rattle.agreement.specs.Translation.Walk.{End, Walked, counted, ending, helperAt, instrs}
+use Rattle.agreement.specs.Translation.Walk.{End, Walked, counted, ending, helperAt, instrs, before}
 use Rattle.agreement.specs.Translation.Walk.End.{calls, goesOn, jumped}
 use Rattle.agreement.specs.Laws.{Halfwords}
 use Rattle.agreement.specs.Statement.Agreement.{At, Entered, Returns, feed, feedOf, helperOf, inReturn, inSaved, inSlots, isRefused}
@@ -21,6 +21,7 @@ use Rattle.agreement.specs.Statement.Machine.Event.{visited}
 use Rattle.agreement.specs.Statement.Machine.Went.{helped, plainly}
 use Rattle.agreement.specs.Statement.Premises.{Enterable, Keeps, Layout, Typed, Unchanged}
 use Rattle.agreement.specs.X86.Decode.{Bytes}
+use Rattle.agreement.specs.X86.Decode.Operand.{mem}
 use Rattle.agreement.specs.X86.Encode.{bytes, encode}
 use Rattle.agreement.specs.X86.Form.{Alu.add, Instr, Instr.aluImm32, Instr.callRax, Instr.ret, Ok, RAX, RDI, RDX, RSP}
 use Rattle.agreement.specs.X86.Memory.{Memory, at, nth, overlay, read}
@@ -29,13 +30,15 @@ use Rattle.agreement.specs.X86.Step.{all, next, step}
 use Rattle.agreement.proofs.Block.Stages.{Entry, Exit, Place, Returned, way-out}
 use Rattle.agreement.proofs.Block.EntryToReturn.{Back, Calling, Leaving, calls-leaves, goesOn-leaves, jumped-leaves}
 use Rattle.agreement.proofs.Host.Fetching.{fetch, one}
-use Rattle.agreement.proofs.Host.Straight.{all-append, step-unlogged}
+use Rattle.agreement.proofs.Host.Jumpless.{StepsThrough}
+use Rattle.agreement.proofs.Host.Straight.{AllOk, all-append, ok-append, step-unlogged}
 use Rattle.agreement.proofs.Laws.Tests.{leb-yes}
-use Rattle.agreement.proofs.Theorem.MemoryAtEntry.{AllOk, fine-ok, laid, ok-append, overlay-in, overlay-out, slot-shift, small-bytes}
+use Rattle.agreement.proofs.Theorem.MemoryAtEntry.{laid, overlay-in, overlay-out, slot-shift, small-bytes}
 use Rattle.agreement.proofs.Theorem.ManualRun.{Stays, stays, turn-called, turn-plain}
 use Rattle.agreement.proofs.Theorem.RefusedAlike.{Bounds, EndOk, made-halfwords, walk-ok}
 use Rattle.agreement.proofs.Words.Simulation.{Agree, agree}
 use Rattle.agreement.proofs.Words.Slots.{Slots}
+use Rattle.agreement.proofs.Words.Undivided.{undivided-jumpless}
 
 -- 1. The addresses that a block may write
 
@@ -251,7 +254,7 @@ module _ (t : Turn) (m : GuestState) (rb : RegisterBytes) (ty : Typed t) (un : U
     code-bytes : Bytes code
     code-bytes =
         block-bytes (t .helper16) (t .helperMem) p (ty .helper16) (ty .helperMem) (omega (arith, bounds .few)) (bounds .end-ok)
-        (fine-ok (p .code) (agreed .fit .fine))
+        (agreed .leads .sound .allowed)
 
     s0 : State
     s0 = enter t code rb
@@ -276,7 +279,7 @@ module _ (t : Turn) (m : GuestState) (rb : RegisterBytes) (ty : Typed t) (un : U
     slot-zero s x h e = let z : t .base + 8 * 0 ≡ t .base = omega arith in rw z at (h ∙ e)
 
     returns-by : (w u : State) (n : ℕ) (ws : List ℕ) (c : Option Call) → read 8 (u .mem) (t .base) ≡ 0
-        → Exit (t .sp - 64) s0 w u → n ≡ length (instrs (t .helper16) (t .helperMem) p)
+        → Exit (t .sp - 64) s0 w u → StepsThrough (instrs (t .helper16) (t .helperMem) p) n
         → all (own t) ws ≡ true → Returns t m (m .pc) (record { entry = s0; call = c; exit = u; steps = n; log = ws })
     returns-by w u n ws c x0 e k l = record {
       accepted = rf;
@@ -292,7 +295,10 @@ module _ (t : Turn) (m : GuestState) (rb : RegisterBytes) (ty : Typed t) (un : U
       r13 = e .r13;
       r14 = e .r14;
       r15 = e .r15;
-      steps = k;
+      steps = record {
+        most = k .most;
+        exact = λ d. k .exact (undivided-jumpless limit (m .pc) (t .made) (t .helper16) (t .helperMem) halfwords (rw (un) d));
+      };
       log = l;
     }
 

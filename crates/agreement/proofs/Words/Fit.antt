@@ -1,24 +1,28 @@
 -- Each word's code fits into a block: its operands are in range, it goes straight on, and it is tame.
-use mathlib.Core.Bool.{cond}
+use mathlib.Core.Bool.{cond, not}
 use mathlib.Core.List.{List, [], _++_, _∷_}
 use mathlib.Core.Logic.{_≢_}
 use mathlib.Core.Path.{_≡_, refl}
-use Prim.Native.Nat.{_*_, _-_, _<_, _^_, ℕ}
+use Prim.Native.Nat.{_*_, _+_, _-_, _<_, _^_, ℕ}
 use native.Mathlib.Decide.{ℕ-discrete}
 use native.Mathlib.Omega.{arith}
 use lib.Dec.{T, eqb}
 use Rattle.agreement.specs.Riscv.Instruction.{Branch, Op, OpImm}
 use Rattle.agreement.specs.Riscv.Instruction.Op.{ADD, ADDW, AND, MUL, MULW, OR, SLL, SLLW, SLT, SLTU, SRA, SRAW, SRL, SRLW, SUB, SUBW}
-use Rattle.agreement.specs.Riscv.Instruction.Op.{XOR}
+use Rattle.agreement.specs.Riscv.Instruction.Op.{XOR, DIV, DIVU, DIVUW, DIVW, MULH, MULHSU, MULHU, REM, REMU, REMUW, REMW}
 use Rattle.agreement.specs.Riscv.Instruction.OpImm.{ADDI, ADDIW, ANDI, ORI, SLLI, SLLIW, SLTI, SLTIU, SRAI, SRAIW, SRLI, SRLIW, XORI}
-use Rattle.agreement.specs.Translation.Emit.{bodyOp, bodyOpImm, codeBranch, codeConst, codeJal, codeJalr, codeOp, codeOpImm, compare}
-use Rattle.agreement.specs.Translation.Emit.{loadReg, storeReg}
+use Rattle.agreement.specs.Translation.Emit.{bodyOp, bodyOpImm, codeBranch, codeConst, codeJal, codeJalr, codeOpImm, compare, loadReg}
+use Rattle.agreement.specs.Translation.Emit.{storeReg}
 use Rattle.agreement.specs.X86.Form.{Instr, Ok, R10, R11, RAX, RBX}
 use Rattle.agreement.specs.X86.Form.Alu.{add, and}
 use Rattle.agreement.specs.X86.Form.Instr.{aluImm32, mov, movImm64, store}
-use Rattle.agreement.proofs.Host.Straight.{Fine, fine-append}
+use Rattle.agreement.proofs.Host.Straight.{Fine, fine-append, AllOk, fine-ok, ok-append, run}
+use lib.ListN.{length}
 use Rattle.agreement.proofs.Laws.Tests.{eqb-no, eqb-yes}
 use Rattle.agreement.proofs.Words.Tame.{AllTame, Tame, free}
+use Rattle.agreement.proofs.Host.Paths.{Path, path-append, path-straight}
+use Rattle.agreement.specs.X86.State.{Flags, State}
+use Rattle.agreement.specs.Statement.Steps.{divides}
 
 pub record Fit (is : List Instr) : Type 0 where
   pub fine : Fine is
@@ -36,6 +40,33 @@ pub fit-nil : Fit []
 unfolding Fine AllTame
 fit-nil = record { fine = tt; tame = tt }
 
+-- the same of code that is not all straight
+pub record Sound (is : List Instr) : Type 0 where
+  pub allowed : AllOk is
+  pub tame : AllTame is
+
+-- n steps lead from s through the code to t
+pub record Leads (undefined : State → Flags) (is : List Instr) (s : State) (n : ℕ) (t : State) : Type 0 where
+  pub sound : Sound is
+  pub path : Path undefined is s n t
+
+pub leads-straight : (undefined : State → Flags) (is : List Instr) (s : State) → Fit is
+    → Leads undefined is s (length is) (run undefined is s)
+leads-straight undefined is s f = record {
+  sound = record { allowed = fine-ok is (f .fine); tame = f .tame };
+  path = path-straight undefined is s (f .fine);
+}
+
+pub leads-append : (undefined : State → Flags) (xs ys : List Instr) (s t u : State) (n m : ℕ)
+    → Leads undefined xs s n t → Leads undefined ys t m u → Leads undefined (xs ++ ys) s (n + m) u
+leads-append undefined xs ys s t u n m p q = record {
+  sound = record {
+    allowed = ok-append xs ys (p .sound .allowed) (q .sound .allowed);
+    tame = tame-append xs ys (p .sound .tame) (q .sound .tame);
+  };
+  path = path-append undefined (p .path) (q .path);
+}
+
 -- what is left out for x0
 fit-if : (d : ℕ) (is : List Instr) → (d ≢ 0 → Fit is) → Fit (cond (eqb d 0) [] is)
 fit-if d is p = go (ℕ-discrete d 0)
@@ -48,7 +79,7 @@ fit-put : (d q : ℕ) → d < 32 → q < 16 → d ≢ 0 → Fit (store RBX (8 * 
 unfolding Fine Ok AllTame Tame
 fit-put d q l k n = record { fine = omega arith; tame = ((refl, omega arith, omega arith), tt) }
 
-fit-store : (d : ℕ) → d < 32 → Fit (storeReg d R10)
+pub fit-store : (d : ℕ) → d < 32 → Fit (storeReg d R10)
 fit-store d l = fit-if d (store RBX (8 * d) R10 ∷ []) (fit-put d R10 l (omega arith))
 
 pub fit-load : (r : ℕ) → r < 32 → Fit (loadReg R10 r ∷ [])
@@ -67,30 +98,37 @@ pub fit-mov64 : (d v : ℕ) → T (free d) → d < 16 → v < 2 ^ 64 → Fit (mo
 unfolding Fine Ok AllTame Tame
 fit-mov64 d v t k l = record { fine = ((k, l), tt, tt); tame = (t, tt) }
 
-fit-body-op : (o : Op) → Fit (bodyOp o)
-unfolding Fine Ok AllTame Tame
-fit-body-op ADD = omega arith
-fit-body-op SUB = omega arith
-fit-body-op SLL = omega arith
-fit-body-op SLT = omega arith
-fit-body-op SLTU = omega arith
-fit-body-op XOR = omega arith
-fit-body-op SRL = omega arith
-fit-body-op SRA = omega arith
-fit-body-op OR = omega arith
-fit-body-op AND = omega arith
-fit-body-op ADDW = omega arith
-fit-body-op SUBW = omega arith
-fit-body-op SLLW = omega arith
-fit-body-op SRLW = omega arith
-fit-body-op SRAW = omega arith
-fit-body-op MUL = omega arith
-fit-body-op MULW = omega arith
-
-pub fit-op : (o : Op) (d p q : ℕ) → d < 32 → p < 32 → q < 32 → Fit (codeOp o d p q)
-fit-op o d p q h k l =
-    fit-append (loadReg R10 p ∷ loadReg R11 q ∷ []) (bodyOp o ++ storeReg d R10) (fit-loads p q k l)
-    (fit-append (bodyOp o) (storeReg d R10) (fit-body-op o) (fit-store d h))
+-- the words that do not divide
+pub fit-body-op : (o : Op) → T (not (divides o)) → Fit (bodyOp o)
+unfolding Fine Ok AllTame Tame divides
+fit-body-op ADD t = omega arith
+fit-body-op SUB t = omega arith
+fit-body-op SLL t = omega arith
+fit-body-op SLT t = omega arith
+fit-body-op SLTU t = omega arith
+fit-body-op XOR t = omega arith
+fit-body-op SRL t = omega arith
+fit-body-op SRA t = omega arith
+fit-body-op OR t = omega arith
+fit-body-op AND t = omega arith
+fit-body-op ADDW t = omega arith
+fit-body-op SUBW t = omega arith
+fit-body-op SLLW t = omega arith
+fit-body-op SRLW t = omega arith
+fit-body-op SRAW t = omega arith
+fit-body-op MUL t = omega arith
+fit-body-op MULW t = omega arith
+fit-body-op MULH t = omega arith
+fit-body-op MULHSU t = omega arith
+fit-body-op MULHU t = omega arith
+fit-body-op DIV t = absurd t
+fit-body-op DIVU t = absurd t
+fit-body-op REM t = absurd t
+fit-body-op REMU t = absurd t
+fit-body-op DIVW t = absurd t
+fit-body-op DIVUW t = absurd t
+fit-body-op REMW t = absurd t
+fit-body-op REMUW t = absurd t
 
 fit-body-imm : (o : OpImm) (i c d : ℕ) → i < 2 ^ 32 → c < 64 → d < 32 → Fit (bodyOpImm o i c d)
 unfolding Fine Ok AllTame Tame

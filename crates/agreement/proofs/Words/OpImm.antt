@@ -20,8 +20,9 @@ use Rattle.agreement.specs.X86.Step.{past}
 use Rattle.agreement.proofs.Host.Fetching.{one}
 use Rattle.agreement.proofs.Host.Straight.{run, run-append}
 use Rattle.agreement.proofs.Laws.Compare.{cmp-B, cmp-L}
-use Rattle.agreement.proofs.Words.Op.{al-is, oneIf-lt, sra-is, sra-lt, sraw-is, word-is, word-lt, word-mod}
+use Rattle.agreement.proofs.Words.Op.{al-is, oneIf-lt, sra-is, sra-lt, sraw-is}
 use Rattle.agreement.proofs.Words.Slots.{InR10, Slots, finish, left-left, load-one, slot-lt}
+use Rattle.agreement.proofs.Laws.Width.{word-is, word-lt, word-mod}
 
 body-imm : (undefined : State → Flags) (o : OpImm) (s : State) (a i I c d : ℕ) → a < 2 ^ 64 → I < 2 ^ 64 → c < 64 → d < 32
     → sext 32 64 i ≡ I → s .regs R10 ≡ a → InR10 s (run undefined (bodyOpImm o i c d) s) (valueOpImm o a I c d)

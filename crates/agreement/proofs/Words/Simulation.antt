@@ -4,6 +4,7 @@ use mathlib.Core.List.{List, [], _∷_}
 use mathlib.Core.Path.{_≡_, ap, refl, subst, sym}
 use Prim.Native.Nat.{_+_, _<_, _^_, _≤_, suc, zero, ℕ}
 use native.Mathlib.Omega.{arith}
+use lib.ListN.{length}
 use Rattle.agreement.specs.Common.{Helper, Helper.forAccess, Helper.forHalfword}
 use Rattle.agreement.specs.Riscv.Fields.{opcode, plus, rd, rs1, rs2, shamt5, shamt6}
 use Rattle.agreement.specs.Riscv.Instruction.{Instruction, valueOp, valueOpImm}
@@ -21,15 +22,15 @@ use Rattle.agreement.specs.X86.Form.{Instr, R10, R11, RAX}
 use Rattle.agreement.specs.X86.State.{Flags, State}
 use Rattle.agreement.specs.X86.Step.{past}
 use Rattle.agreement.proofs.Host.Fetching.{one}
-use Rattle.agreement.proofs.Host.Straight.{run, run-append}
+use Rattle.agreement.proofs.Host.Straight.{run}
 use Rattle.agreement.proofs.Laws.Fields.{long-is, opcode-is, rd-is, rs1-is, rs2-is, shamt5-is, shamt6-is, wordOf-is}
 use Rattle.agreement.proofs.Laws.Immediates.{imm32-is, imm32-lt, immB-is, immI-lt, immJ-is, immU-is, immU-lt}
 use Rattle.agreement.proofs.Laws.Leftover.{leftover-by}
 use Rattle.agreement.proofs.Laws.Naming.{kind-is}
-use Rattle.agreement.proofs.Words.Fit.{Fit, fit-append, fit-branch, fit-compare, fit-const, fit-imm, fit-jal, fit-jalr, fit-load}
-use Rattle.agreement.proofs.Words.Fit.{fit-loads, fit-nil, fit-op}
+use Rattle.agreement.proofs.Words.Fit.{Fit, fit-branch, fit-compare, fit-const, fit-imm, fit-jal, fit-jalr, fit-load, fit-loads}
+use Rattle.agreement.proofs.Words.Fit.{fit-nil, Leads, leads-append, leads-straight}
 use Rattle.agreement.proofs.Words.Jumps.{Jumped, branch-jumps, const-slots, jal-jumps, jalr-jumps}
-use Rattle.agreement.proofs.Words.Op.{op-slots}
+use Rattle.agreement.proofs.Words.Op.{op-done}
 use Rattle.agreement.proofs.Words.OpImm.{opImm-slots}
 use Rattle.agreement.proofs.Words.Slots.{Slots}
 use Rattle.agreement.specs.Translation.Decode32 as Decode32
@@ -47,10 +48,12 @@ plus-lt a c = omega arith
 module _ (undefined : State → Flags) (b : ℕ) (fits : b + 256 ≤ 2 ^ 64) where
   -- what a walk p, run from s, makes of a reading q
   pub record Agree (p : Walked) (q : Read) (s : State) : Type 0 where
-    pub fit : Fit (p .code)
-    pub slots : Slots b (q .registers) (run undefined (p .code) s)
+    pub n : ℕ
+    pub t : State
+    pub leads : Leads undefined (p .code) s n t
+    pub slots : Slots b (q .registers) t
     pub same : p .added ≡ q .added
-    pub next : Next (p .end) (q .pc) (q .stop) (run undefined (p .code) s)
+    pub next : Next (p .end) (q .pc) (q .stop) t
 
   -- code that changes no slot
   Idle : Registers → State → List Instr → Type 0
@@ -72,48 +75,79 @@ module _ (undefined : State → Flags) (b : ℕ) (fits : b + 256 ≤ 2 ^ 64) whe
       o0 = unfold Idle in (fit-nil, unfold run in h)
 
   -- how a walk stops
+  idly : (s : State) → Leads undefined [] s 0 s
+  unfolding run
+  idly s = leads-straight undefined [] s fit-nil
+
   stopped : (pc : ℕ) (x : Registers) (s : State) → Slots b x s → Agree (stopsAt pc) (halt x pc) s
   unfolding run Next
-  stopped pc x s h = record { fit = fit-nil; slots = h; same = refl; next = (refl, refl) }
+  stopped pc x s h = record { n = 0; t = s; leads = idly s; slots = h; same = refl; next = (refl, refl) }
 
   calling : (k : Helper) (i pc : ℕ) (x : Registers) (s : State) → Slots b x s → Agree (helps k i pc) (help x pc k i) s
   unfolding run Next
-  calling k i pc x s h = record { fit = fit-nil; slots = h; same = refl; next = (refl, refl) }
+  calling k i pc x s h = record { n = 0; t = s; leads = idly s; slots = h; same = refl; next = (refl, refl) }
 
   not-taken : (pc w : ℕ) (x : Registers) (s : State) → Slots b x s → Agree (notTakenAt pc w) (halt x pc) s
   not-taken pc w x s h = rw (opcode-is w, rs1-is w, rs2-is w) (by (left-over (opcode w) (rs1 w) (rs2 w) (omega arith) (omega arith) x s h))
     where
       by : Idle x s (leftover (opcode w) (rs1 w) (rs2 w))
           → Agree (record { code = leftover (opcode w) (rs1 w) (rs2 w); added = 0; end = goesOn pc }) (halt x pc) s
-      by q = unfold Idle Next in record { fit = q .0; slots = q .1; same = refl; next = (refl, refl) }
+      by q = unfold Idle Next in record {
+        n = _;
+        t = run undefined (leftover (opcode w) (rs1 w) (rs2 w)) s;
+        leads = leads-straight undefined _ s (q .0);
+        slots = q .1;
+        same = refl;
+        next = (refl, refl);
+      }
 
   jumping : (is : List Instr) (x : Registers) (pc : ℕ) (s : State) → Fit is
       → Jumped b x pc (run undefined is s) → Agree (jumps is) (jump x pc) s
   unfolding Next
-  jumping is x pc s f j = record { fit = f; slots = j .slots; same = refl; next = (j .rax, refl) }
+  jumping is x pc s f j = record {
+    n = length is;
+    t = run undefined is s;
+    leads = leads-straight undefined is s f;
+    slots = j .slots;
+    same = refl;
+    next = (j .rax, refl);
+  }
 
   stopping : (is : List Instr) (x : Registers) (pc : ℕ) (s : State) → Fit is
       → Slots b x (run undefined is s) → Agree (stopsBehind is pc) (jump x pc) s
   unfolding Next
-  stopping is x pc s f h = record { fit = f; slots = h; same = refl; next = (refl, refl) }
+  stopping is x pc s f h = record {
+    n = length is;
+    t = run undefined is s;
+    leads = leads-straight undefined is s f;
+    slots = h;
+    same = refl;
+    next = (refl, refl);
+  }
 
   -- a straight word before a walk
-  then : (is : List Instr) (p : Walked) (r : Read) (s : State) → Fit is → Agree p r (run undefined is s) → Agree (before is p) (oneMore r) s
-  then is p r s f a = record {
-    fit = fit-append is (p .code) f (a .fit);
-    slots = rw (run-append undefined is (p .code) s) (a .slots);
+  along : (is : List Instr) (p : Walked) (r : Read) (s t : State) (n : ℕ) → Leads undefined is s n t → Agree p r t
+      → Agree (before is p) (oneMore r) s
+  along is p r s t n l a = record {
+    n = n + a .n;
+    t = a .t;
+    leads = leads-append undefined is (p .code) s t (a .t) n (a .n) l (a .leads);
+    slots = a .slots;
     same = ap suc (a .same);
-    next = rw (run-append undefined is (p .code) s) (a .next);
+    next = a .next;
   }
+
+  then : (is : List Instr) (p : Walked) (r : Read) (s : State) → Fit is → Agree p r (run undefined is s) → Agree (before is p) (oneMore r) s
+  then is p r s f a = along is p r s (run undefined is s) (length is) (leads-straight undefined is s f) a
 
   -- one lemma per instruction; f goes on with what follows
   agree-word : (i : Instruction) (pc w : ℕ) (p : Walked) (x : Registers) (k : Registers → Read) (s : State) → w < 2 ^ 32 → Slots b x s
       → ((x : Registers) (s : State) → Slots b x s → Agree p (k x) s) → Agree (emit i pc w p) (does i pc w x k) s
   unfolding emit does
   agree-word (op o) pc w p x k s lw h f = rw (rd-is w, rs1-is w, rs2-is w)
-      (then (codeOp o (rd w) (rs1 w) (rs2 w)) p (k (writeX x (rd w) (valueOp o (x (rs1 w)) (x (rs2 w))))) s
-      (fit-op o (rd w) (rs1 w) (rs2 w) (omega arith) (omega arith) (omega arith))
-      (f _ _ (op-slots undefined b fits o x s (rd w) (rs1 w) (rs2 w) h (omega arith) (omega arith) (omega arith))))
+      (let d = op-done undefined b fits o x s (rd w) (rs1 w) (rs2 w) h (omega arith) (omega arith) (omega arith) in
+      along (codeOp o (rd w) (rs1 w) (rs2 w)) p (k (writeX x (rd w) (valueOp o (x (rs1 w)) (x (rs2 w))))) s (d .t) (d .n)
+      (d .leads) (f _ _ (d .slots)))
   agree-word (opImm o) pc w p x k s lw h f = rw (rd-is w, rs1-is w, shamt6-is w, shamt5-is w)
       (then (codeOpImm o (rd w) (rs1 w) (Decode32.imm32 w) (shamt6 w) (shamt5 w)) p
       (k (writeX x (rd w) (valueOpImm o (x (rs1 w)) (Manual.immI w) (shamt6 w) (shamt5 w)))) s

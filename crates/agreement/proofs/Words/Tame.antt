@@ -1,24 +1,28 @@
 -- One syntactic test on a list of instructions gives its frame: the registers that a block keeps are kept, only slots
 -- are read and written, and so the code is not.
 use mathlib.Core.Bool.{Bool, _&&_, cond, false, not, true}
-use mathlib.Core.List.{List, [], _∷_}
+use mathlib.Core.List.{List, [], _++_, _∷_, append-assoc}
 use mathlib.Core.Logic.{_≢_}
 use mathlib.Core.Path.{_∙_, _≡_, refl}
 use Prim.Native.Nat.{_+_, _/_, _<_, _^_, _≤_, ℕ}
 use native.Mathlib.Omega.{arith}
 use lib.Dec.{T, eqb}
+use lib.ListN.{length, length-append}
+use Rattle.agreement.specs.X86.Encode.{bytes, encode}
 use Rattle.agreement.specs.X86.Execute.{accesses, exec, result}
 use Rattle.agreement.specs.X86.Flags.{sext}
-use Rattle.agreement.specs.X86.Form.{Alu, Instr, R12, R13, R14, R15, RBP, RBX, RSP}
+use Rattle.agreement.specs.X86.Form.{Alu, Instr, R12, R13, R14, R15, RBP, RBX, RSP, RAX, RDX}
 use Rattle.agreement.specs.X86.Form.Alu.{add, and, cmp, or, sub, xor}
 use Rattle.agreement.specs.X86.Form.Instr.{alu, aluImm32, aluImm8, callRax, cmov, imul, load, mov, movImm64, movsxd, movzx, pop, push}
-use Rattle.agreement.specs.X86.Form.Instr.{ret, setccAl, shiftCl, shiftImm8, store}
+use Rattle.agreement.specs.X86.Form.Instr.{ret, setccAl, shiftCl, shiftImm8, store, cqo, jcc, mulDiv}
+use Rattle.agreement.specs.X86.Form.MulDiv.{sdiv, smul, udiv, umul}
 use Rattle.agreement.specs.X86.Memory.{at, span}
 use Rattle.agreement.specs.X86.State.{Flags, Permissions, State, set}
-use Rattle.agreement.specs.X86.Step.{all, past}
-use Rattle.agreement.proofs.Host.Fetching.{one, reads, writes}
+use Rattle.agreement.specs.X86.Step.{Goes, Goes.done, Goes.more, all, past}
+use Rattle.agreement.proofs.Host.Fetching.{Holds, one, reads, writes}
 use Rattle.agreement.proofs.Host.Memory.{write-out}
-use Rattle.agreement.proofs.Host.Straight.{Safe, all-append, all-span, run, trace}
+use Rattle.agreement.proofs.Host.Straight.{AllOk, all-append, all-span, bytes-append, ok-right, stepped}
+use Rattle.agreement.proofs.Host.Paths.{Path, Path.arrived, Path.onward}
 use Rattle.agreement.proofs.Laws.Tests.{leb-no}
 
 -- the registers that a block keeps between words
@@ -60,12 +64,20 @@ Tame (movsxd d s) = T (free d)
 Tame (setccAl c) = Unit
 Tame (movzx d s) = T (free d)
 Tame (cmov c d s) = T (free d)
+Tame (mulDiv w op r) = Unit
+Tame (cqo w) = Unit
+Tame (jcc c d) = Unit
 Tame callRax = ⊥
 Tame ret = ⊥
 
 unfoldable pub AllTame : List Instr → Type 0
 AllTame [] = Unit
 AllTame (i ∷ is) = Tame i × AllTame is
+
+tame-right : (xs ys : List Instr) → AllTame (xs ++ ys) → AllTame ys
+unfolding AllTame
+tame-right [] ys t = t
+tame-right (x ∷ xs) ys t = tame-right xs ys (t .1)
 
 and-0 : (a b : Bool) → T (a && b) → T a
 and-0 true b t = tt
@@ -109,6 +121,10 @@ set-free f d v t =
 same7 : (f : ℕ → ℕ) → Seven f f
 same7 f = record { a3 = refl; a4 = refl; a5 = refl; a12 = refl; a13 = refl; a14 = refl; a15 = refl }
 
+-- RAX and RDX
+set-pair : (f : ℕ → ℕ) (v w : ℕ) → Seven f (set (set f RAX v) RDX w)
+set-pair f v w = record { a3 = refl; a4 = refl; a5 = refl; a12 = refl; a13 = refl; a14 = refl; a15 = refl }
+
 result-free : (op : Alu) (f : ℕ → ℕ) (d v : ℕ) → T (free d) → Seven f (result op f d v)
 result-free add f d v t = set-free f d v t
 result-free or f d v t = set-free f d v t
@@ -146,6 +162,9 @@ module _ (undefined : State → Flags) (b : ℕ) (fits : b + 256 ≤ 2 ^ 64) whe
   tame-reads P h (setccAl c) s e t = refl
   tame-reads P h (movzx d r) s e t = refl
   tame-reads P h (cmov c d r) s e t = refl
+  tame-reads P h (mulDiv w op r) s e t = refl
+  tame-reads P h (cqo w) s e t = refl
+  tame-reads P h (jcc c d) s e t = refl
   tame-reads P h callRax s e t = absurd t
   tame-reads P h ret s e t = absurd t
 
@@ -168,6 +187,9 @@ module _ (undefined : State → Flags) (b : ℕ) (fits : b + 256 ≤ 2 ^ 64) whe
   tame-writes P h (setccAl c) s e t = refl
   tame-writes P h (movzx d r) s e t = refl
   tame-writes P h (cmov c d r) s e t = refl
+  tame-writes P h (mulDiv w op r) s e t = refl
+  tame-writes P h (cqo w) s e t = refl
+  tame-writes P h (jcc c d) s e t = refl
   tame-writes P h callRax s e t = absurd t
   tame-writes P h ret s e t = absurd t
 
@@ -199,38 +221,60 @@ module _ (undefined : State → Flags) (b : ℕ) (fits : b + 256 ≤ 2 ^ 64) whe
   tame-one (setccAl c) s e t = mk s _ (set-free (s .regs) 0 _ tt) refl
   tame-one (movzx d r) s e t = mk s _ (set-free (s .regs) d _ t) refl
   tame-one (cmov c d r) s e t = mk s _ (set-free (s .regs) d _ t) refl
+  tame-one (mulDiv w umul r) s e t = mk s _ (set-pair (s .regs) _ _) refl
+  tame-one (mulDiv w smul r) s e t = mk s _ (set-pair (s .regs) _ _) refl
+  tame-one (mulDiv w udiv r) s e t = mk s _ (set-pair (s .regs) _ _) refl
+  tame-one (mulDiv w sdiv r) s e t = mk s _ (set-pair (s .regs) _ _) refl
+  tame-one (cqo w) s e t = mk s _ (set-free (s .regs) RDX _ tt) refl
+  tame-one (jcc c d) s e t = mk s _ (same7 (s .regs)) refl
   tame-one callRax s e t = absurd t
   tame-one ret s e t = absurd t
 
   through : (s t u : State) → Within b s t → Within b t u → Within b s u
   through s t u p q = record { saved = saved-trans s t u (p .saved) (q .saved); outside = λ x f. q .outside x f ∙ p .outside x f }
 
-  pub tame-run : (is : List Instr) (s : State) → s .regs 3 ≡ b → AllTame is → Within b s (run undefined is s)
-  unfolding AllTame run
-  tame-run [] s e t = mk s s (same7 (s .regs)) refl
-  tame-run (i ∷ is) s e t =
-      let w = tame-one i s e (t .0) in
-      through s (one undefined i s) _ w (tame-run is (one undefined i s) (w .saved .rbx ∙ e) (t .1))
+  -- along a path: its steps write only in P, and lead behind the instructions
+  pub record Trod (ok : Permissions) (P : ℕ → Bool) (c : ℕ) (code : List ℕ) (e n : ℕ) (s t : State) : Type 0 where
+    pub ws : List ℕ
+    pub goes : Goes undefined ok s n ws t
+    pub own : all P ws ≡ true
+    pub there : t .rip ≡ at c e
+    pub held : Holds (ok .fetch) (t .mem) c code
+    pub within : Within b s t
 
-  pub tame-safe : (ok : Permissions) → ((i : ℕ) → i < 256 → ok .read (b + i) ≡ true) → ((i : ℕ) → i < 256 → ok .write (b + i) ≡ true)
-      → (c n : ℕ) → c + n ≤ 2 ^ 64 → ((i j : ℕ) → i < n → j < 256 → c + i ≢ b + j)
-      → (is : List Instr) (s : State) → s .regs 3 ≡ b → AllTame is → Safe undefined ok c n is s
-  unfolding AllTame Safe
-  tame-safe ok r w c n f a [] s e t = tt
-  tame-safe ok r w c n f a (i ∷ is) s e t =
-      let v = tame-one i s e (t .0) in (
-        tame-reads (ok .read) r i s e (t .0),
-        tame-writes (ok .write) (λ j l k. w j k) i s e (t .0),
-        (λ k l. v .outside (at c k) (λ j o. omega (arith, a k j l o))),
-        tame-safe ok r w c n f a is (one undefined i s) (v .saved .rbx ∙ e) (t .1),
-      )
-
-  pub tame-trace : (P : ℕ → Bool) → ((i : ℕ) → 8 ≤ i → i < 256 → P (b + i) ≡ true)
-      → (is : List Instr) (s : State) → s .regs 3 ≡ b → AllTame is
-      → all P (trace undefined is s) ≡ true
-  unfolding AllTame trace
-  tame-trace P h [] s e t = unfold all in refl
-  tame-trace P h (i ∷ is) s e t =
-      let w = tame-one i s e (t .0) in
-      let s′ : State = one undefined i s in
-      all-append P (writes i s) (trace undefined is s′) (tame-writes P h i s e (t .0)) (tame-trace P h is s′ (w .saved .rbx ∙ e) (t .1))
+  module _ (ok : Permissions) (P : ℕ → Bool) (c : ℕ) (code : List ℕ)
+      (r : (i : ℕ) → i < 256 → ok .read (b + i) ≡ true) (w : (i : ℕ) → i < 256 → ok .write (b + i) ≡ true)
+      (o : (i : ℕ) → 8 ≤ i → i < 256 → P (b + i) ≡ true) (l : c < 2 ^ 64) (f : c + length code ≤ 2 ^ 64)
+      (a : (i j : ℕ) → i < length code → j < 256 → c + i ≢ b + j) where
+    pub trod : (is : List Instr) (pre post : List ℕ) (s t : State) (n : ℕ) → code ≡ pre ++ (bytes is ++ post)
+        → AllOk is → AllTame is → Path undefined is s n t → s .regs RBX ≡ b
+        → Holds (ok .fetch) (s .mem) c code → s .rip ≡ at c (length pre)
+        → Trod ok P c code (length pre + length (bytes is)) n s t
+    unfolding AllOk AllTame
+    trod [] pre post s t n q k m arrived e h i =
+        let z : length pre ≡ length pre + 0 = omega arith in
+        record { ws = []; goes = done; own = unfold all in refl; there = rw (← z) i; held = h; within = mk s s (same7 (s .regs)) refl }
+    trod (x ∷ is) pre post s t n q k m (onward {xs = xs} {ys = ys} {n = j} p y g) e h i =
+        let s′ : State = one undefined x s in
+        let v = tame-one x s e (m .0) in
+        let st = stepped undefined ok c code x pre (bytes is ++ post) s (rw q (simp append-assoc)) l (k .0) (p .sound)
+        (tame-reads (ok .read) r x s e (m .0)) (tame-writes (ok .write) (λ j l k. w j k) x s e (m .0))
+        (λ k l. v .outside (at c k) (λ j o. omega (arith, a k j l o))) h i in
+        let pre′ : List ℕ = pre ++ (encode x ++ bytes xs) in
+        let y′ : bytes is ≡ bytes xs ++ bytes ys = rw y (bytes-append xs ys) in
+        let q′ : code ≡ pre′ ++ (bytes ys ++ post) = rw q (rw y′ (simp append-assoc)) in
+        let lp : length pre′ ≡ length pre + (length (encode x) + length (bytes xs)) = simp length-append in
+        let i′ : s′ .rip ≡ at c (length pre′) = p .rip ∙ rw (i, lp) (omega arith) in
+        let k′ : AllOk ys = ok-right xs ys (rw y at (k .1)) in
+        let m′ : AllTame ys = tame-right xs ys (rw y at (m .1)) in
+        let u = trod ys pre′ post s′ t j q′ k′ m′ g (v .saved .rbx ∙ e) (st .held) i′ in
+        let d : length pre′ + length (bytes ys) ≡ length pre + length (encode x ++ bytes is) =
+        rw (lp, y′) (simp length-append (omega arith)) in
+        record {
+          ws = writes x s ++ u .ws;
+          goes = more {ws = writes x s} {vs = u .ws} (st .fetched) (p .no-call) (p .no-ret) (st .does) (u .goes);
+          own = all-append P (writes x s) (u .ws) (tame-writes P o x s e (m .0)) (u .own);
+          there = rw (← d) (u .there);
+          held = u .held;
+          within = through s s′ t v (u .within);
+        }

@@ -5,20 +5,21 @@ use mathlib.Core.List.{List, [], _∷_, _++_}
 use Prim.Native.Nat.{ℕ, zero, suc, _+_, _-_, _*_, _/_, _%_, _^_}
 use lib.Bits.{bitAnd, bitOr, bitXor}
 use lib.Dec.{leb, ltb, eqb}
-use lib.Signed.{ltZ}
-use lib.IntN.{ℤ, ℤ.pos, ℤ.negsuc}
+use lib.Signed.{ltZ, quotZ, remZ}
+use lib.IntN.{ℤ, ℤ.pos, ℤ.negsuc, _*ℤ_}
 use Rattle.agreement.specs.Riscv.Fields.{opcode, funct3, funct7, funct6}
 use Rattle.agreement.specs.Riscv.Immediates.{signExtend}
 
 -- 1. Names
 
--- two source registers: OP and OP-32, those of M apart that have no meaning here
+-- two source registers: OP and OP-32
 pub data Op : Type 0 where
   ADD SUB SLL SLT SLTU XOR SRL SRA OR AND ADDW SUBW SLLW SRLW SRAW MUL MULW : Op
+  MULH MULHSU MULHU DIV DIVU REM REMU DIVW DIVUW REMW REMUW : Op
 
--- named by its row, without a meaning, since no run executes it: the rest of M, and the environment calls
+-- named by its row, without a meaning, since no run executes it: the environment calls
 pub data Unmodelled : Type 0 where
-  MULH MULHSU MULHU DIV DIVU REM REMU DIVW DIVUW REMW REMUW ECALL EBREAK : Unmodelled
+  ECALL EBREAK : Unmodelled
 
 -- a register and an immediate: OP-IMM and OP-IMM-32
 pub data OpImm : Type 0 where
@@ -104,7 +105,35 @@ unfoldable pub shiftRightArithmetic : ℕ → ℕ → ℕ → ℕ
 shiftRightArithmetic zero a c = 0
 shiftRightArithmetic (suc k) a c = a / 2 ^ c + a / 2 ^ k * (2 ^ suc k - 2 ^ (suc k - c))
 
--- 4. Two source registers ("Integer Register-Register Operations", RV32I and RV64I; M, "Multiplication Operations")
+-- the n bits of an integer in two's complement
+unfoldable pub bitsOf : ℕ → ℤ → ℕ
+bitsOf n (pos a) = a % 2 ^ n
+bitsOf n (negsuc a) = 2 ^ n - 1 - a % 2 ^ n
+
+-- M, "Multiplication Operations": "the upper XLEN bits of the full 2 × XLEN-bit product", n being XLEN
+abbrev pub upperHalf : ℕ → ℤ → ℕ
+upperHalf n z = bitsOf (2 * n) z / 2 ^ n
+
+-- M, "Division Operations", of numbers of n bits: "rounding towards zero"; of a remainder "the sign of the result equals
+-- the sign of the dividend"; and the table "Semantics for division by zero and division overflow", its columns DIVU, REMU,
+-- DIV and REM. An overflow is the least integer divided by -1.
+unfoldable pub quotientU : ℕ → ℕ → ℕ → ℕ
+quotientU n a b = cond (eqb b 0) (2 ^ n - 1) (a / b)
+
+unfoldable pub remainderU : ℕ → ℕ → ℕ → ℕ
+remainderU n a b = cond (eqb b 0) a (a % b)
+
+unfoldable pub overflows : ℕ → ℕ → ℕ → Bool
+overflows n a b = eqb a (2 ^ n / 2) && eqb b (2 ^ n - 1)
+
+unfoldable pub quotient : ℕ → ℕ → ℕ → ℕ
+quotient n a b =
+    cond (eqb b 0) (2 ^ n - 1) (cond (overflows n a b) (2 ^ n / 2) (bitsOf n (quotZ (signed n a) (signed n b))))
+
+unfoldable pub remainder : ℕ → ℕ → ℕ → ℕ
+remainder n a b = cond (eqb b 0) a (cond (overflows n a b) 0 (bitsOf n (remZ (signed n a) (signed n b))))
+
+-- 4. Two source registers ("Integer Register-Register Operations", RV32I and RV64I; M)
 
 abbrev pub opRows : List Row
 opRows =
@@ -118,7 +147,8 @@ opRows =
     ∷ row (op SRAW) 0x3B (funct3Is 5) (funct7Is 0x20) ∷ row (op MUL) 0x33 (funct3Is 0) (funct7Is 0x01)
     ∷ row (op MULW) 0x3B (funct3Is 0) (funct7Is 0x01) ∷ []
 
--- a: the value of rs1; b: the value of rs2. Shifts go by the low 6 bits of rs2, those of 32-bit words by the low 5.
+-- a: the value of rs1; b: the value of rs2. Shifts go by the low 6 bits of rs2, those of 32-bit words by the low 5;
+-- the 32-bit words of M take the low 32 bits of both, and every 32-bit result is sign-extended.
 unfoldable pub valueOp : Op → ℕ → ℕ → ℕ
 valueOp ADD a b = (a + b) % 2 ^ 64
 valueOp SUB a b = (a + (2 ^ 64 - b)) % 2 ^ 64
@@ -137,15 +167,26 @@ valueOp SRLW a b = word (a % 2 ^ 32 / 2 ^ (b % 32))
 valueOp SRAW a b = word (shiftRightArithmetic 32 (a % 2 ^ 32) (b % 32))
 valueOp MUL a b = a * b % 2 ^ 64
 valueOp MULW a b = word (a * b)
+valueOp MULH a b = upperHalf 64 (signed 64 a *ℤ signed 64 b)
+valueOp MULHSU a b = upperHalf 64 (signed 64 a *ℤ pos b)
+valueOp MULHU a b = upperHalf 64 (pos a *ℤ pos b)
+valueOp DIV a b = quotient 64 a b
+valueOp DIVU a b = quotientU 64 a b
+valueOp REM a b = remainder 64 a b
+valueOp REMU a b = remainderU 64 a b
+valueOp DIVW a b = word (quotient 32 (a % 2 ^ 32) (b % 2 ^ 32))
+valueOp DIVUW a b = word (quotientU 32 (a % 2 ^ 32) (b % 2 ^ 32))
+valueOp REMW a b = word (remainder 32 (a % 2 ^ 32) (b % 2 ^ 32))
+valueOp REMUW a b = word (remainderU 32 (a % 2 ^ 32) (b % 2 ^ 32))
 
 abbrev pub opMRows : List Row
 opMRows =
-    row (unmodelled MULH) 0x33 (funct3Is 1) (funct7Is 0x01) ∷ row (unmodelled MULHSU) 0x33 (funct3Is 2) (funct7Is 0x01)
-    ∷ row (unmodelled MULHU) 0x33 (funct3Is 3) (funct7Is 0x01) ∷ row (unmodelled DIV) 0x33 (funct3Is 4) (funct7Is 0x01)
-    ∷ row (unmodelled DIVU) 0x33 (funct3Is 5) (funct7Is 0x01) ∷ row (unmodelled REM) 0x33 (funct3Is 6) (funct7Is 0x01)
-    ∷ row (unmodelled REMU) 0x33 (funct3Is 7) (funct7Is 0x01) ∷ row (unmodelled DIVW) 0x3B (funct3Is 4) (funct7Is 0x01)
-    ∷ row (unmodelled DIVUW) 0x3B (funct3Is 5) (funct7Is 0x01) ∷ row (unmodelled REMW) 0x3B (funct3Is 6) (funct7Is 0x01)
-    ∷ row (unmodelled REMUW) 0x3B (funct3Is 7) (funct7Is 0x01) ∷ []
+    row (op MULH) 0x33 (funct3Is 1) (funct7Is 0x01) ∷ row (op MULHSU) 0x33 (funct3Is 2) (funct7Is 0x01)
+    ∷ row (op MULHU) 0x33 (funct3Is 3) (funct7Is 0x01) ∷ row (op DIV) 0x33 (funct3Is 4) (funct7Is 0x01)
+    ∷ row (op DIVU) 0x33 (funct3Is 5) (funct7Is 0x01) ∷ row (op REM) 0x33 (funct3Is 6) (funct7Is 0x01)
+    ∷ row (op REMU) 0x33 (funct3Is 7) (funct7Is 0x01) ∷ row (op DIVW) 0x3B (funct3Is 4) (funct7Is 0x01)
+    ∷ row (op DIVUW) 0x3B (funct3Is 5) (funct7Is 0x01) ∷ row (op REMW) 0x3B (funct3Is 6) (funct7Is 0x01)
+    ∷ row (op REMUW) 0x3B (funct3Is 7) (funct7Is 0x01) ∷ []
 
 -- 5. A register and an immediate ("Integer Register-Immediate Instructions", RV32I and RV64I)
 

@@ -22,7 +22,7 @@ Registers = ℕ → ℕ
 
 -- 1. The words that a turn takes (document 01, "Words taken")
 
--- not taken: the rest of M, and the environment calls. This choice and `reservedRows` are document 01's, not the manual's.
+-- not taken: the environment calls. This choice and `reservedRows` are document 01's, not the manual's.
 abbrev pub chosen : Instruction → Bool
 chosen (op o) = true
 chosen (opImm o) = true

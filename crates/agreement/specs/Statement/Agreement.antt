@@ -3,10 +3,10 @@ use mathlib.Core.Path.{_≡_}
 use mathlib.Core.Bool.{Bool, true, false, _&&_, _||_}
 use mathlib.Core.List.{List, [], _∷_}
 use mathlib.Core.Option.{Option, none, some}
-use Prim.Native.Nat.{ℕ, suc, _+_, _-_, _*_, _%_, _^_, _<_}
+use Prim.Native.Nat.{ℕ, suc, min, _+_, _-_, _*_, _%_, _^_, _<_}
 use lib.ListN.{length}
 use lib.Dec.{leb, ltb}
-use Rattle.agreement.specs.Common.{Helper, Helper.forHalfword, Helper.forAccess}
+use Rattle.agreement.specs.Common.{mostSteps, Helper, Helper.forHalfword, Helper.forAccess}
 use Rattle.agreement.specs.X86.Memory.{at, read}
 use Rattle.agreement.specs.X86.Form.{RAX, RCX, RDX, RBX, RSP, RBP, RSI, RDI, R8, R12, R13, R14, R15}
 use Rattle.agreement.specs.X86.Step.{all}
@@ -16,6 +16,7 @@ use Rattle.agreement.specs.Translation.Walk.{instrs}
 use Rattle.agreement.specs.Translation.Replies.{walked}
 use Rattle.agreement.specs.Statement.Machine.{RegisterBytes, Turn, Call, Visit, Event, Event.rejected, Event.visited, History, since}
 use Rattle.agreement.specs.Statement.Premises.{Premises}
+use Rattle.agreement.specs.Statement.Steps.{undivided, StepsOf}
 
 -- 1. What a turn feeds to the manual's run: the code as it is then and, after a helper, the slots and RAX that the helper left.
 -- `made`, which the machine translates, is not fed
@@ -62,8 +63,8 @@ unfoldable pub own : Turn → ℕ → Bool
 own t x = inSlots t x || (inSaved t x || inReturn t x)
 
 -- every entry: at the manual's pc with the manual's registers; slot x0 zero, at entry and at return; back to the address that
--- stands at the entry stack pointer, the stack pointer 8 higher, the psABI's saved registers as at entry; one step for each
--- instruction of the block
+-- stands at the entry stack pointer, the stack pointer 8 higher, the psABI's saved registers as at entry; a step for each
+-- instruction of the block at the most, and exactly that where no word divides
 pub record Returns (t : Turn) (m : GuestState) (pc : ℕ) (v : Visit) : Type 0 where
   pub accepted : isRefused t m ≡ false
   pub entry-pc : pc ≡ m .pc
@@ -78,7 +79,8 @@ pub record Returns (t : Turn) (m : GuestState) (pc : ℕ) (v : Visit) : Type 0 w
   pub r13 : v .exit .regs R13 ≡ v .entry .regs R13
   pub r14 : v .exit .regs R14 ≡ v .entry .regs R14
   pub r15 : v .exit .regs R15 ≡ v .entry .regs R15
-  pub steps : v .steps ≡ length (instrs (t .helper16) (t .helperMem) (walked (m .pc) (t .limit) (t .made)))
+  pub steps : StepsOf (instrs (t .helper16) (t .helperMem) (walked (m .pc) (t .limit) (t .made)))
+      (undivided (min (t .limit) mostSteps) (runAt (t .code) (m .pc) (t .reach))) (v .steps)
   pub log : all (own t) (v .log) ≡ true
 
 -- an entry without a helper; n: the translation's count; q: the turn as the manual's run reads it

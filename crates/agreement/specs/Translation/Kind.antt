@@ -6,7 +6,7 @@ use Prim.Native.Nat.{ℕ}
 use lib.Dec.{eqb}
 use Rattle.agreement.specs.Riscv.Instruction.{Instruction}
 use Rattle.agreement.specs.Riscv.Instruction.Op.{ADD, SUB, SLT, SLTU, XOR, OR, AND, SLL, SRL, SRA, MUL, ADDW, SUBW, SLLW, SRLW, SRAW}
-use Rattle.agreement.specs.Riscv.Instruction.Op.{MULW}
+use Rattle.agreement.specs.Riscv.Instruction.Op.{MULW, MULH, MULHSU, MULHU, DIV, DIVU, REM, REMU, DIVW, DIVUW, REMW, REMUW}
 use Rattle.agreement.specs.Riscv.Instruction.OpImm.{ADDI, SLTI, SLTIU, XORI, ORI, ANDI, SLLI, SRLI, SRAI, ADDIW, SLLIW, SRLIW, SRAIW}
 use Rattle.agreement.specs.Riscv.Instruction.Branch.{BEQ, BNE, BLT, BGE, BLTU, BGEU}
 use Rattle.agreement.specs.Riscv.Instruction.Access.{LB, LH, LW, LD, LBU, LHU, LWU, SB, SH, SW, SD}
@@ -28,17 +28,18 @@ unfoldable pub match : ℕ → List Arm → Instruction
 match n [] = other
 match n (a ∷ arms) = cond (eqb n (a .pattern)) (a .value) (match n arms)
 
--- OPCODE_OP: the Rust matches on the pair of funct7 and funct3; here funct3 = f, then funct7 = s
+-- OPCODE_OP: the Rust matches on the pair of funct7 and funct3; here funct3 = f, then funct7 = s. Of F7_MULDIV the Rust
+-- takes MUL and MULW, request Q-2 the rest.
 unfoldable pub kindOp : ℕ → ℕ → Instruction
 kindOp f s = match f (
     0 ⇒ match s (0x00 ⇒ op ADD ∷ 0x20 ⇒ op SUB ∷ 0x01 ⇒ op MUL ∷ [])
-    ∷ 1 ⇒ match s (0x00 ⇒ op SLL ∷ [])
-    ∷ 2 ⇒ match s (0x00 ⇒ op SLT ∷ [])
-    ∷ 3 ⇒ match s (0x00 ⇒ op SLTU ∷ [])
-    ∷ 4 ⇒ match s (0x00 ⇒ op XOR ∷ [])
-    ∷ 5 ⇒ match s (0x00 ⇒ op SRL ∷ 0x20 ⇒ op SRA ∷ [])
-    ∷ 6 ⇒ match s (0x00 ⇒ op OR ∷ [])
-    ∷ 7 ⇒ match s (0x00 ⇒ op AND ∷ [])
+    ∷ 1 ⇒ match s (0x00 ⇒ op SLL ∷ 0x01 ⇒ op MULH ∷ [])
+    ∷ 2 ⇒ match s (0x00 ⇒ op SLT ∷ 0x01 ⇒ op MULHSU ∷ [])
+    ∷ 3 ⇒ match s (0x00 ⇒ op SLTU ∷ 0x01 ⇒ op MULHU ∷ [])
+    ∷ 4 ⇒ match s (0x00 ⇒ op XOR ∷ 0x01 ⇒ op DIV ∷ [])
+    ∷ 5 ⇒ match s (0x00 ⇒ op SRL ∷ 0x20 ⇒ op SRA ∷ 0x01 ⇒ op DIVU ∷ [])
+    ∷ 6 ⇒ match s (0x00 ⇒ op OR ∷ 0x01 ⇒ op REM ∷ [])
+    ∷ 7 ⇒ match s (0x00 ⇒ op AND ∷ 0x01 ⇒ op REMU ∷ [])
     ∷ [])
 
 -- OPCODE_OP_32
@@ -46,7 +47,10 @@ unfoldable pub kindOp32 : ℕ → ℕ → Instruction
 kindOp32 f s = match f (
     0 ⇒ match s (0x00 ⇒ op ADDW ∷ 0x20 ⇒ op SUBW ∷ 0x01 ⇒ op MULW ∷ [])
     ∷ 1 ⇒ match s (0x00 ⇒ op SLLW ∷ [])
-    ∷ 5 ⇒ match s (0x00 ⇒ op SRLW ∷ 0x20 ⇒ op SRAW ∷ [])
+    ∷ 4 ⇒ match s (0x01 ⇒ op DIVW ∷ [])
+    ∷ 5 ⇒ match s (0x00 ⇒ op SRLW ∷ 0x20 ⇒ op SRAW ∷ 0x01 ⇒ op DIVUW ∷ [])
+    ∷ 6 ⇒ match s (0x01 ⇒ op REMW ∷ [])
+    ∷ 7 ⇒ match s (0x01 ⇒ op REMUW ∷ [])
     ∷ [])
 
 -- OPCODE_OP_IMM, the shifts by imm_hi = t

@@ -1,19 +1,21 @@
 -- What a reader of the SDM makes of bytes: an optional REX prefix, the opcode, ModRM, SIB, displacement, immediate.
 -- Intel SDM volume 2, "Instruction Format", "REX Prefixes", "ModR/M and SIB Bytes" and the page of each mnemonic.
 -- It uses no definition of Encode. Of several encodings of an instruction (an idle REX or SIB byte, the other direction of
--- MOV, an 8-bit displacement) it takes the one that the Rust writes; all else is not decoded: no next state.
+-- MOV, an 8-bit displacement) it takes the one that the encoder writes; all else is not decoded: no next state.
+-- Of the jumps (7x cb) it takes those forward: a displacement of 128 or more is negative.
 use mathlib.Core.Bool.{Bool, true, false, not, _&&_}
 use mathlib.Core.List.{List, [], _∷_}
 use mathlib.Core.Option.{Option, none, some}
 use Prim.Native.Nat.{ℕ, zero, suc, _+_, _*_, _/_, _%_, _<_}
 use lib.Dec.{ltb, eqb}
-use Rattle.agreement.specs.X86.Form.{Width, Alu, Shift, Cc, Instr}
+use Rattle.agreement.specs.X86.Form.{Width, Alu, Shift, MulDiv, Cc, Instr}
 use Rattle.agreement.specs.X86.Form.Width.{r32, r64}
 use Rattle.agreement.specs.X86.Form.Alu.{add, or, and, sub, xor, cmp}
 use Rattle.agreement.specs.X86.Form.Shift.{shl, shr, sar}
+use Rattle.agreement.specs.X86.Form.MulDiv.{umul, smul, udiv, sdiv}
 use Rattle.agreement.specs.X86.Form.Cc.{B, AE, E, NE, L, GE}
 use Rattle.agreement.specs.X86.Form.Instr.{push, pop, mov, movImm64, load, store, alu, aluImm32, aluImm8, shiftCl, shiftImm8, imul}
-use Rattle.agreement.specs.X86.Form.Instr.{movsxd, setccAl, movzx, cmov, callRax, ret}
+use Rattle.agreement.specs.X86.Form.Instr.{movsxd, setccAl, movzx, cmov, mulDiv, cqo, jcc, callRax, ret}
 
 -- an operand named by ModRM.rm: a register, or memory at a base register plus a displacement
 pub data Operand : Type 0 where
@@ -65,6 +67,9 @@ aluOf n k =
 
 unfoldable pub shiftOf : ℕ → (Shift → Answer) → Answer
 shiftOf n k = pick (eqb n 4) (k shl) (pick (eqb n 5) (k shr) (only (eqb n 7) (k sar)))
+
+unfoldable pub mulDivOf : ℕ → (MulDiv → Answer) → Answer
+mulDivOf n k = pick (eqb n 4) (k umul) (pick (eqb n 5) (k smul) (pick (eqb n 6) (k udiv) (only (eqb n 7) (k sdiv))))
 
 unfoldable pub ccOf : ℕ → (Cc → Answer) → Answer
 ccOf n k =
@@ -120,7 +125,12 @@ opcode1 w r b (o ∷ bs) =
     pick (eqb o 0x0F) (opcode0F w r b bs) (
     pick (eqb o 0xFF) (only (eqb (4 * w + 2 * r + b) 0) (modrm 0 0 bs (λ p g rest. onReg p (λ d.
     only (eqb (16 * g + d) 32) (some (callRax, rest)))))) (
-    only (eqb o 0xC3) (only (eqb (4 * w + 2 * r + b) 0) (some (ret, bs))))))))))))))))
+    pick (eqb o 0xF7) (only (eqb r 0) (modrm 0 b bs (λ p g rest. onReg p (λ d. mulDivOf g (λ op.
+    some (mulDiv (widthOf w) op d, rest)))))) (
+    pick (eqb o 0x99) (only (eqb (2 * r + b) 0) (some (cqo (widthOf w), bs))) (
+    pick (eqb (o / 16) 7) (only (eqb (4 * w + 2 * r + b) 0) (ccOf (o % 16) (λ c.
+    imm 1 bs (λ d rest. only (ltb d 128) (some (jcc c d, rest)))))) (
+    only (eqb o 0xC3) (only (eqb (4 * w + 2 * r + b) 0) (some (ret, bs)))))))))))))))))))
 
 -- a REX prefix is 0100WRXB; X = 0, since no form has an index register, and not the bare 0x40
 unfoldable pub decode : List ℕ → Answer

@@ -4,13 +4,14 @@ use mathlib.Core.List.{List, [], _∷_, _++_}
 use Prim.Native.Nat.{ℕ, _+_, _*_, _/_, _%_}
 use lib.Dec.{eqb}
 use Rattle.agreement.specs.X86.Memory.{bytesOf}
-use Rattle.agreement.specs.X86.Form.{Width, Alu, Shift, Cc, Instr}
+use Rattle.agreement.specs.X86.Form.{Width, Alu, Shift, MulDiv, Cc, Instr}
 use Rattle.agreement.specs.X86.Form.Width.{r32, r64}
 use Rattle.agreement.specs.X86.Form.Alu.{add, or, and, sub, xor, cmp}
 use Rattle.agreement.specs.X86.Form.Shift.{shl, shr, sar}
+use Rattle.agreement.specs.X86.Form.MulDiv.{umul, smul, udiv, sdiv}
 use Rattle.agreement.specs.X86.Form.Cc.{B, AE, E, NE, L, GE}
 use Rattle.agreement.specs.X86.Form.Instr.{push, pop, mov, movImm64, load, store, alu, aluImm32, aluImm8, shiftCl, shiftImm8, imul}
-use Rattle.agreement.specs.X86.Form.Instr.{movsxd, setccAl, movzx, cmov, callRax, ret}
+use Rattle.agreement.specs.X86.Form.Instr.{movsxd, setccAl, movzx, cmov, mulDiv, cqo, jcc, callRax, ret}
 
 -- the /digit of 81 and 83; the opcode of the register form is 8 * digit + 1
 abbrev pub digit : Alu → ℕ
@@ -27,7 +28,14 @@ shiftDigit shl = 4
 shiftDigit shr = 5
 shiftDigit sar = 7
 
--- the low four bits of 0F 4x (CMOVcc) and 0F 9x (SETcc)
+-- the /digit of F7
+abbrev pub mulDivDigit : MulDiv → ℕ
+mulDivDigit umul = 4
+mulDivDigit smul = 5
+mulDivDigit udiv = 6
+mulDivDigit sdiv = 7
+
+-- the low four bits of 0F 4x (CMOVcc), 0F 9x (SETcc) and 7x (Jcc with an 8-bit displacement)
 abbrev pub ccNumber : Cc → ℕ
 ccNumber B = 0x2
 ccNumber AE = 0x3
@@ -68,6 +76,9 @@ encode (movsxd d s) = rex r64 d s ++ 0x63 ∷ modReg d s ∷ []
 encode (setccAl c) = 0x0F ∷ (0x90 + ccNumber c) ∷ 0xC0 ∷ []
 encode (movzx d s) = rex r64 d s ++ 0x0F ∷ 0xB6 ∷ modReg d s ∷ []
 encode (cmov c d s) = rex r64 d s ++ 0x0F ∷ (0x40 + ccNumber c) ∷ modReg d s ∷ []
+encode (mulDiv w op r) = rex w 0 r ++ 0xF7 ∷ modReg (mulDivDigit op) r ∷ []
+encode (cqo w) = rex w 0 0 ++ 0x99 ∷ []
+encode (jcc c d) = (0x70 + ccNumber c) ∷ d ∷ []
 encode callRax = 0xFF ∷ 0xD0 ∷ []
 encode ret = 0xC3 ∷ []
 

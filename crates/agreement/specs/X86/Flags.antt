@@ -4,6 +4,7 @@ use mathlib.Core.Bool.{Bool, true, false, not, cond, _&&_}
 use Prim.Native.Nat.{ℕ, zero, suc, _+_, _-_, _*_, _/_, _%_, _^_}
 use lib.Bits.{bitAnd, bitOr, bitXor}
 use lib.Dec.{leb, ltb, eqb}
+use lib.IntN.{ℤ, ℤ.pos, ℤ.negsuc}
 use Rattle.agreement.specs.X86.Form.{Alu, Shift, Cc}
 use Rattle.agreement.specs.X86.Form.Alu.{add, or, and, sub, xor, cmp}
 use Rattle.agreement.specs.X86.Form.Shift.{shl, shr, sar}
@@ -17,6 +18,14 @@ negative w a = leb (2 ^ w / 2) a
 -- sign extension from k bits to w, "SignExtend"
 unfoldable pub sext : ℕ → ℕ → ℕ → ℕ
 sext k w a = cond (negative k a) (a + (2 ^ w - 2 ^ k)) a
+
+-- the integer that w bits stand for in two's complement, and the w bits of an integer (volume 1, "Signed Integers")
+unfoldable pub asSigned : ℕ → ℕ → ℤ
+asSigned w a = cond (negative w a) (negsuc (2 ^ w - 1 - a)) (pos a)
+
+unfoldable pub asBits : ℕ → ℤ → ℕ
+asBits w (pos a) = a % 2 ^ w
+asBits w (negsuc a) = 2 ^ w - 1 - a % 2 ^ w
 
 abbrev pub unlike : Bool → Bool → Bool
 unlike true b = not b
@@ -103,13 +112,23 @@ shiftFlags w op a c old u = elim (eqb c 0) [
   | false ↦ flagsOf w (shifted w op a c) (shiftedOut w op a c) (u .af) (cond (eqb c 1) (shiftOverflow w op a) (u .of))
 ]
 
--- IMUL: CF and OF say that the signed product does not fit w bits; SF, ZF, AF and PF are undefined. (Newer editions of
--- the SDM define SF; left undefined here, the agreement covers both.)
+-- a product: CF and OF say that it does not fit w bits; SF, ZF, AF and PF are undefined
+abbrev pub productFlags : Bool → Flags → Flags
+productFlags over u = record { cf = over; pf = u .pf; af = u .af; zf = u .zf; sf = u .sf; of = over }
+
+-- IMUL of two operands, whose signed product is cut to w bits. (Newer editions of the SDM define SF; left undefined here, the
+-- agreement covers both.)
 unfoldable pub imulFlags : ℕ → ℕ → ℕ → Flags → Flags
 imulFlags w a b u =
     let exact : ℕ = sext w (2 * w) a * sext w (2 * w) b % 2 ^ (2 * w) in
-    let over : Bool = not (eqb exact (sext w (2 * w) (a * b % 2 ^ w))) in
-    record { cf = over; pf = u .pf; af = u .af; zf = u .zf; sf = u .sf; of = over }
+    productFlags (not (eqb exact (sext w (2 * w) (a * b % 2 ^ w)))) u
+
+-- MUL and IMUL of one operand, p the whole product, of 2w bits: is its upper half not 0, or not the sign of the lower
+unfoldable pub umulFlags : ℕ → ℕ → Flags → Flags
+umulFlags w p u = productFlags (not (eqb (p / 2 ^ w) 0)) u
+
+unfoldable pub smulFlags : ℕ → ℕ → Flags → Flags
+smulFlags w p u = productFlags (not (eqb p (sext w (2 * w) (p % 2 ^ w)))) u
 
 abbrev pub bitOf : Bool → ℕ
 bitOf true = 1

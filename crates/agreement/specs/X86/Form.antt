@@ -1,4 +1,5 @@
--- The host's instruction forms (Intel SDM volume 2), in families that contain what the Rust's 42 encoders write.
+-- The host's instruction forms (Intel SDM volume 2), in families that contain what the Rust's 42 encoders write, and
+-- what request Q-2 adds: multiplication and division of one operand, the dividend's sign, and conditional jumps forward.
 use Prim.Native.Nat.{ℕ, _^_, _<_}
 
 -- registers by number ("REX Prefixes" extend them to 8 to 15)
@@ -60,11 +61,16 @@ pub data Alu : Type 0 where
 pub data Shift : Type 0 where
   shl shr sar : Shift
 
+-- MUL, IMUL, DIV and IDIV of one operand, the other being RAX or RDX:RAX
+pub data MulDiv : Type 0 where
+  umul smul udiv sdiv : MulDiv
+
 -- condition codes: below, above or equal, equal, not equal, less, greater or equal
 pub data Cc : Type 0 where
   B AE E NE L GE : Cc
 
--- destination first, as the SDM writes operands; a memory operand is a base register and a 32-bit displacement
+-- destination first, as the SDM writes operands; a memory operand is a base register and a 32-bit displacement; a jump's
+-- operand is how many bytes behind it are skipped
 pub data Instr : Type 0 where
   push pop : ℕ → Instr
   mov : ℕ → ℕ → Instr
@@ -81,6 +87,9 @@ pub data Instr : Type 0 where
   setccAl : Cc → Instr
   movzx : ℕ → ℕ → Instr
   cmov : Cc → ℕ → ℕ → Instr
+  mulDiv : Width → MulDiv → ℕ → Instr
+  cqo : Width → Instr
+  jcc : Cc → ℕ → Instr
   callRax : Instr
   ret : Instr
 
@@ -102,5 +111,8 @@ Ok (movsxd d s) = (d < 16) × (s < 16)
 Ok (setccAl c) = Unit
 Ok (movzx d s) = (d < 16) × (s < 16)
 Ok (cmov c d s) = (d < 16) × (s < 16)
+Ok (mulDiv w op r) = r < 16
+Ok (cqo w) = Unit
+Ok (jcc c d) = d < 128
 Ok callRax = Unit
 Ok ret = Unit

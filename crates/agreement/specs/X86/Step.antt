@@ -1,6 +1,7 @@
--- One step: fetch at RIP, decode, execute. Bytes that do not decode and accesses that are not permitted have no next state;
--- the bytes behind an instruction need not be fetchable. A store is seen by the next fetch at once, where the SDM asks for
--- a jump or a serializing instruction first: the blocks never write themselves. CALL and RET do not test that the target is canonical.
+-- One step: fetch at RIP, decode, execute. Bytes that do not decode, divisions that fault (#DE) and accesses that are not
+-- permitted have no next state; the bytes behind an instruction need not be fetchable. A store is seen by the next fetch at once,
+-- where the SDM asks for a jump or a serializing instruction first: the blocks never write themselves. CALL and RET do not test
+-- that the target is canonical.
 use mathlib.Core.Path.{_≡_}
 use mathlib.Core.Bool.{Bool, true, false}
 use mathlib.Core.List.{List, [], _∷_, _++_}
@@ -12,7 +13,7 @@ use Rattle.agreement.specs.X86.Memory.{Memory, at, up}
 use Rattle.agreement.specs.X86.Form.{Instr, Instr.callRax, Instr.ret}
 use Rattle.agreement.specs.X86.Decode.{Answer, decode}
 use Rattle.agreement.specs.X86.State.{Flags, State, Permissions}
-use Rattle.agreement.specs.X86.Execute.{accesses, exec}
+use Rattle.agreement.specs.X86.Execute.{accesses, faults, exec}
 
 -- the bytes from a on that may be fetched, n at the most
 unfoldable pub fetched : (ℕ → Bool) → ℕ → Memory → ℕ → List ℕ
@@ -42,12 +43,15 @@ next ok s = let bs : List ℕ = fetched (ok .fetch) 15 (s .mem) (s .rip) in cut 
 -- the state after an instruction, with the addresses that it wrote
 unfoldable pub did : (State → Flags) → Permissions → State → Option Fetch → Option (State × List ℕ)
 did undefined ok s none = none
-did undefined ok s (some f) = elim (all (ok .read) (accesses (f .instr) s .read)) [
-  | true ↦ elim (all (ok .write) (accesses (f .instr) s .written)) [
-    | true ↦ some (exec undefined (f .instr) (past (f .size) s), accesses (f .instr) s .written)
+did undefined ok s (some f) = elim (faults (f .instr) s) [
+  | true ↦ none
+  | false ↦ elim (all (ok .read) (accesses (f .instr) s .read)) [
+    | true ↦ elim (all (ok .write) (accesses (f .instr) s .written)) [
+      | true ↦ some (exec undefined (f .instr) (past (f .size) s), accesses (f .instr) s .written)
+      | false ↦ none
+    ]
     | false ↦ none
   ]
-  | false ↦ none
 ]
 
 unfoldable pub step : (State → Flags) → Permissions → State → Option (State × List ℕ)
