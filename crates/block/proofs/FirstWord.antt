@@ -8,10 +8,10 @@ use lib.Dec.{eqb}
 use Rattle.agreement.specs.Translation.Decode32.{wordOf}
 use Rattle.agreement.specs.Translation.Kind.{kind, kindNumber}
 use Rattle.agreement.specs.Translation.Replies.{First, First.begins, First.lacks, first, firstWord}
-use Rattle.block.specs.Fetch.{fetched}
+use Rattle.walk.specs.Fetch.{fetched}
 use Rattle.block.specs.First.{byNumber}
-use Rattle.block.specs.declared.fetch.Fetched.{Fetched}
-use Rattle.block.specs.declared.fetch.Fetched.the-variants.{Missing, Half, Word}
+use Rattle.walk.specs.declared.fetch.Fetched.{Fetched}
+use Rattle.walk.specs.declared.fetch.Fetched.the-variants.{Missing, Half, Word}
 
 abbrev byFetchedFirst : Fetched → First
 byFetchedFirst (Missing i) = lacks i

@@ -1,9 +1,4 @@
-pub mod RunFront
-pub mod WalkStep
-pub mod StraightLength
 pub mod FirstWord
-pub mod WalkWritten
-pub mod WalkLoop
 pub mod ReplyLaws
 pub mod CallerReadsReply
 pub mod CodeAgrees

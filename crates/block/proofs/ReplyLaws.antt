@@ -18,11 +18,11 @@ use Rattle.agreement.specs.Translation.Replies.Refusal.{limitZero, oddStart, ou
 use Rattle.agreement.specs.Translation.Replies.First.{begins, lacks, untaken}
 use Rattle.agreement.proofs.Laws.Length.{block-length}
 use Rattle.emitter.proofs.WriteLaws.{parts}
-use Rattle.block.specs.Walks.{Compiles}
+use Rattle.walk.specs.Walks.{Compiles}
 use Rattle.block.specs.Answers.{Answers, Fits}
 use Rattle.block.specs.declared.Answer.{Answer}
 use Rattle.block.specs.declared.Answer.the-variants as Answer
-use Rattle.block.specs.declared.close.Compiled.{Compiled}
+use Rattle.walk.specs.declared.close.Compiled.{Compiled}
 
 -- 1. The reply, by the tests in their order
 

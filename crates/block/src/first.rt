@@ -1,6 +1,6 @@
 // The first word is looked at before anything is written: a refusal leaves every byte of the output as it was.
-use crate::fetch::Fetched;
 use kind::WordKind;
+use walk::fetch::Fetched;
 ghost use mathlib.Core.Path.{_≡_};
 ghost use Rattle.agreement.specs.Translation.Replies.{first};
 ghost use Rattle.kind.specs.Numbered.{numberOf};
@@ -26,7 +26,7 @@ fn by_kind(what: WordKind, instr: u32) -> First
 pub fn first_word(halfwords: &[u16]) -> First
     ensures { λ r. ⌜ firstAs r ≡ first (now (halfwords .entry)) ⌝ }
 {
-    let fetched = crate::fetch::fetch(halfwords, 0);
+    let fetched = walk::fetch::fetch(halfwords, 0);
     match fetched {
         Fetched::Missing(index) => First::Lacks(index),
         Fetched::Half(_) => First::Begins,

@@ -1,12 +1,10 @@
 // `compile_native_block` of src/hart/jit_amd64.rs: a run of halfwords becomes a block at the front of a lent output.
-mod close;
-mod fetch;
 mod first;
-mod walk;
 
-use crate::close::Compiled;
 use crate::first::First;
 use emitter::X64Emitter;
+use walk::close;
+use walk::close::Compiled;
 ghost use mathlib.Core.Path.{_≡_};
 ghost use Prim.Native.Nat.{min, _≤_};
 ghost use Rattle.agreement.specs.Common.{greatest, mostSteps};
@@ -14,7 +12,7 @@ ghost use Rattle.agreement.specs.Translation.Walk.{walk};
 ghost use Rattle.agreement.specs.Translation.Replies.{blockOf};
 ghost use Rattle.emitter.specs.Written.{Room};
 ghost use Rattle.block.specs.Answers.{Translates, Fits};
-ghost use Rattle.block.specs.Walks.{Compiles};
+ghost use Rattle.walk.specs.Walks.{Compiles};
 
 // Document 01, "Replies". `specs/Answers` gives each case its number and values.
 pub enum Answer {
@@ -27,7 +25,7 @@ pub enum Answer {
 }
 
 // `greatest` of the contracts: the least output that is accepted, and the greatest length of a block.
-const GREATEST: usize = 2243;
+const GREATEST: usize = 4099;
 
 // `mostSteps` of the contracts: the words of a block, whatever the limit.
 const MOST_STEPS: u32 = 64;
@@ -56,7 +54,7 @@ fn compile_native_block(
         (now (out .entry)) (now (out .exit)) r ⌝ }
 {
     let a = words::x64_emit_prologue(X64Emitter { at: 0 }, out);
-    let w = walk::emit_words(a, out, halfwords, start, steps);
+    let w = walk::walk::emit_words(a, out, halfwords, start, steps);
     let b = w.em;
     let end = w.end;
     close::close(b, out, end, w.emitted, helper16, helper_mem)

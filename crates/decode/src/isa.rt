@@ -43,6 +43,23 @@ pub const F3_OR: u8 = 0b110;
 
 pub const F3_AND: u8 = 0b111;
 
+// funct3 of OP and OP-32 with F7_MULDIV. The Rust has no names for these, and takes the first alone, as F3_ADD_SUB.
+pub const F3_MUL: u8 = 0b000;
+
+pub const F3_MULH: u8 = 0b001;
+
+pub const F3_MULHSU: u8 = 0b010;
+
+pub const F3_MULHU: u8 = 0b011;
+
+pub const F3_DIV: u8 = 0b100;
+
+pub const F3_DIVU: u8 = 0b101;
+
+pub const F3_REM: u8 = 0b110;
+
+pub const F3_REMU: u8 = 0b111;
+
 // funct3 of BRANCH
 pub const F3_BEQ: u8 = 0b000;
 

@@ -47,6 +47,14 @@ al0F form plus = 0x0F ∷ (opcodeOf form + plus) ∷ modReg 0 RAX ∷ []
 abbrev pub regMem : Form → ℕ → ℕ → ℕ → List ℕ
 regMem form reg base disp = rex r64 reg base ++ opcodeOf form ∷ modMem reg base disp
 
+-- no operand
+abbrev pub bare : Form → Bool → List ℕ
+bare form w = rex (widthOf w) 0 0 ++ opcodeOf form ∷ []
+
+-- a condition in the opcode, and a displacement
+abbrev pub jump : Form → ℕ → ℕ → List ℕ
+jump form plus rel = (opcodeOf form + plus) ∷ rel ∷ []
+
 -- a register with a digit; with a byte; with four bytes
 abbrev pub digitRm : Form → Bool → ℕ → List ℕ
 digitRm form w rm = rex (widthOf w) 0 rm ++ opcodeOf form ∷ modReg (digitOf form) rm ∷ []

@@ -86,3 +86,32 @@ pub const ADD_RSP_IMM8: Form = Form(0x83, 0);
 pub const CALL_RAX: Form = Form(0xFF, 2);
 
 pub const RET: Form = Form(0xC3, 0);
+
+// The forms that division and the upper half of a product need (document 02, Q-2). The Rust does not have them.
+pub const MUL_R64: Form = Form(0xF7, 4);
+
+pub const IMUL_R64: Form = Form(0xF7, 5);
+
+pub const DIV_R64: Form = Form(0xF7, 6);
+
+pub const DIV_R32: Form = Form(0xF7, 6);
+
+pub const IDIV_R64: Form = Form(0xF7, 7);
+
+pub const IDIV_R32: Form = Form(0xF7, 7);
+
+pub const CQO: Form = Form(0x99, 0);
+
+pub const CDQ: Form = Form(0x99, 0);
+
+pub const AND_R32_R32: Form = Form(0x21, 0);
+
+pub const XOR_R32_R32: Form = Form(0x31, 0);
+
+pub const ADD_R64_IMM8: Form = Form(0x83, 0);
+
+pub const OR_R64_IMM8: Form = Form(0x83, 1);
+
+pub const CMP_R64_IMM8: Form = Form(0x83, 7);
+
+pub const JCC_REL8: Form = Form(0x70, 0);

@@ -1,6 +1,7 @@
 // `X64Emitter` of src/hart/jit_amd64.rs: host instructions, written into a lent output from a place on.
-// Every encoder has the Rust's name and order. Its contract: the output at exit is the output at entry with exactly
-// the bytes of the instruction (crate agreement, X86/Encode) at the emitter's place, which moves behind them.
+// Every encoder has the Rust's name and order; behind them stand those of document 02, Q-2, which the Rust does not have. The
+// contract of each: the output at exit is the output at entry with exactly the bytes of the instruction (crate agreement,
+// X86/Encode) at the emitter's place, which moves behind them.
 // Immediates and displacements are unsigned in two's complement.
 mod forms;
 
@@ -13,12 +14,12 @@ ghost use lib.ListN.{length};
 ghost use Rattle.agreement.specs.X86.Memory.{bytesOf};
 ghost use Rattle.agreement.specs.X86.Form.{RSP, r32, r64, add, or, and, sub, xor, cmp, shl, shr, sar, push, pop, mov, movImm64, load};
 ghost use Rattle.agreement.specs.X86.Form.{store, alu, aluImm32, aluImm8, shiftCl, shiftImm8, imul, movsxd, setccAl, movzx, cmov, callRax};
-ghost use Rattle.agreement.specs.X86.Form.{ret};
+ghost use Rattle.agreement.specs.X86.Form.{ret, umul, smul, udiv, sdiv, mulDiv, cqo, jcc};
 ghost use Rattle.agreement.specs.X86.Encode.{encode, modReg, modMem, ccNumber};
 ghost use Rattle.emitter.specs.Written.{Wrote, Room};
 ghost use Rattle.emitter.specs.Forms.{ccOf, opcodeOf, digitOf};
 ghost use Rattle.emitter.specs.Shapes.{modrm, rexBytes, memSib, memPlain, opcodeReg, regRm, regRm0F, al0F, regMem, digitRm};
-ghost use Rattle.emitter.specs.Shapes.{digitRmImm8, digitRmImm32};
+ghost use Rattle.emitter.specs.Shapes.{digitRmImm8, digitRmImm32, bare, jump};
 
 pub enum X64Cc {
     B,
@@ -263,11 +264,21 @@ impl X64Emitter {
     }
 
     // No operand.
-    fn form_bare(self, out: &mut [u8], form: Form) -> X64Emitter
-        requires { ⌜ (digitOf form ≡ 0) × Room (now out) (self .at) (length (opcodeOf form ∷ [])) ⌝ }
-        ensures { λ r. ⌜ Wrote (now (out .entry)) (self .at) (opcodeOf form ∷ []) (now (out .exit)) (r .at) ⌝ }
+    fn form_bare(self, out: &mut [u8], form: Form, w: bool) -> X64Emitter
+        requires { ⌜ (digitOf form ≡ 0) × Room (now out) (self .at) (length (bare form w)) ⌝ }
+        ensures { λ r. ⌜ Wrote (now (out .entry)) (self .at) (bare form w) (now (out .exit)) (r .at) ⌝ }
     {
-        self.emit_opcode(out, form)
+        let a = self.emit_rex(out, w, 0, 0, 0);
+        a.emit_opcode(out, form)
+    }
+
+    // A condition in the opcode, and how many bytes behind the jump are skipped: a displacement that is not negative.
+    fn form_jump(self, out: &mut [u8], form: Form, plus: u8, rel: u8) -> X64Emitter
+        requires { ⌜ (digitOf form ≡ 0) × (opcodeOf form + plus < 256) × (rel < 128) × Room (now out) (self .at) (length (jump form plus rel)) ⌝ }
+        ensures { λ r. ⌜ Wrote (now (out .entry)) (self .at) (jump form plus rel) (now (out .exit)) (r .at) ⌝ }
+    {
+        let a = self.emit_opcode_plus(out, form, plus);
+        a.emit_u8(out, rel)
     }
 
     // A register with a digit.
@@ -593,6 +604,108 @@ impl X64Emitter {
         requires { ⌜ Room (now out) (self .at) (length (encode «ret»)) ⌝ }
         ensures { λ r. ⌜ Wrote (now (out .entry)) (self .at) (encode «ret») (now (out .exit)) (r .at) ⌝ }
     {
-        self.form_bare(out, forms::RET)
+        self.form_bare(out, forms::RET, false)
+    }
+
+    // RDX:RAX becomes RAX times a register; below, the same of signed numbers.
+    pub fn mul_r64(self, out: &mut [u8], reg: u8) -> X64Emitter
+        requires { ⌜ (reg < 16) × Room (now out) (self .at) (length (encode (mulDiv r64 umul reg))) ⌝ }
+        ensures { λ r. ⌜ Wrote (now (out .entry)) (self .at) (encode (mulDiv r64 umul reg)) (now (out .exit)) (r .at) ⌝ }
+    {
+        self.form_digit_rm(out, forms::MUL_R64, true, reg)
+    }
+
+    pub fn imul_r64(self, out: &mut [u8], reg: u8) -> X64Emitter
+        requires { ⌜ (reg < 16) × Room (now out) (self .at) (length (encode (mulDiv r64 smul reg))) ⌝ }
+        ensures { λ r. ⌜ Wrote (now (out .entry)) (self .at) (encode (mulDiv r64 smul reg)) (now (out .exit)) (r .at) ⌝ }
+    {
+        self.form_digit_rm(out, forms::IMUL_R64, true, reg)
+    }
+
+    // RAX and RDX become quotient and remainder of RDX:RAX, by a register; IDIV is of signed numbers.
+    pub fn div_r64(self, out: &mut [u8], reg: u8) -> X64Emitter
+        requires { ⌜ (reg < 16) × Room (now out) (self .at) (length (encode (mulDiv r64 udiv reg))) ⌝ }
+        ensures { λ r. ⌜ Wrote (now (out .entry)) (self .at) (encode (mulDiv r64 udiv reg)) (now (out .exit)) (r .at) ⌝ }
+    {
+        self.form_digit_rm(out, forms::DIV_R64, true, reg)
+    }
+
+    pub fn div_r32(self, out: &mut [u8], reg: u8) -> X64Emitter
+        requires { ⌜ (reg < 16) × Room (now out) (self .at) (length (encode (mulDiv r32 udiv reg))) ⌝ }
+        ensures { λ r. ⌜ Wrote (now (out .entry)) (self .at) (encode (mulDiv r32 udiv reg)) (now (out .exit)) (r .at) ⌝ }
+    {
+        self.form_digit_rm(out, forms::DIV_R32, false, reg)
+    }
+
+    pub fn idiv_r64(self, out: &mut [u8], reg: u8) -> X64Emitter
+        requires { ⌜ (reg < 16) × Room (now out) (self .at) (length (encode (mulDiv r64 sdiv reg))) ⌝ }
+        ensures { λ r. ⌜ Wrote (now (out .entry)) (self .at) (encode (mulDiv r64 sdiv reg)) (now (out .exit)) (r .at) ⌝ }
+    {
+        self.form_digit_rm(out, forms::IDIV_R64, true, reg)
+    }
+
+    pub fn idiv_r32(self, out: &mut [u8], reg: u8) -> X64Emitter
+        requires { ⌜ (reg < 16) × Room (now out) (self .at) (length (encode (mulDiv r32 sdiv reg))) ⌝ }
+        ensures { λ r. ⌜ Wrote (now (out .entry)) (self .at) (encode (mulDiv r32 sdiv reg)) (now (out .exit)) (r .at) ⌝ }
+    {
+        self.form_digit_rm(out, forms::IDIV_R32, false, reg)
+    }
+
+    // The sign of RAX in RDX; below, of EAX in EDX.
+    pub fn cqo(self, out: &mut [u8]) -> X64Emitter
+        requires { ⌜ Room (now out) (self .at) (length (encode (cqo r64))) ⌝ }
+        ensures { λ r. ⌜ Wrote (now (out .entry)) (self .at) (encode (cqo r64)) (now (out .exit)) (r .at) ⌝ }
+    {
+        self.form_bare(out, forms::CQO, true)
+    }
+
+    pub fn cdq(self, out: &mut [u8]) -> X64Emitter
+        requires { ⌜ Room (now out) (self .at) (length (encode (cqo r32))) ⌝ }
+        ensures { λ r. ⌜ Wrote (now (out .entry)) (self .at) (encode (cqo r32)) (now (out .exit)) (r .at) ⌝ }
+    {
+        self.form_bare(out, forms::CDQ, false)
+    }
+
+    pub fn and_r32_r32(self, out: &mut [u8], dst: u8, src: u8) -> X64Emitter
+        requires { ⌜ (dst < 16) × (src < 16) × Room (now out) (self .at) (length (encode (alu r32 and dst src))) ⌝ }
+        ensures { λ r. ⌜ Wrote (now (out .entry)) (self .at) (encode (alu r32 and dst src)) (now (out .exit)) (r .at) ⌝ }
+    {
+        self.form_reg_rm(out, forms::AND_R32_R32, false, src, dst)
+    }
+
+    pub fn xor_r32_r32(self, out: &mut [u8], dst: u8, src: u8) -> X64Emitter
+        requires { ⌜ (dst < 16) × (src < 16) × Room (now out) (self .at) (length (encode (alu r32 xor dst src))) ⌝ }
+        ensures { λ r. ⌜ Wrote (now (out .entry)) (self .at) (encode (alu r32 xor dst src)) (now (out .exit)) (r .at) ⌝ }
+    {
+        self.form_reg_rm(out, forms::XOR_R32_R32, false, src, dst)
+    }
+
+    pub fn add_r64_imm8(self, out: &mut [u8], dst: u8, imm: u8) -> X64Emitter
+        requires { ⌜ (dst < 16) × Room (now out) (self .at) (length (encode (aluImm8 add dst imm))) ⌝ }
+        ensures { λ r. ⌜ Wrote (now (out .entry)) (self .at) (encode (aluImm8 add dst imm)) (now (out .exit)) (r .at) ⌝ }
+    {
+        self.form_digit_rm_imm8(out, forms::ADD_R64_IMM8, true, dst, imm)
+    }
+
+    pub fn or_r64_imm8(self, out: &mut [u8], dst: u8, imm: u8) -> X64Emitter
+        requires { ⌜ (dst < 16) × Room (now out) (self .at) (length (encode (aluImm8 or dst imm))) ⌝ }
+        ensures { λ r. ⌜ Wrote (now (out .entry)) (self .at) (encode (aluImm8 or dst imm)) (now (out .exit)) (r .at) ⌝ }
+    {
+        self.form_digit_rm_imm8(out, forms::OR_R64_IMM8, true, dst, imm)
+    }
+
+    pub fn cmp_r64_imm8(self, out: &mut [u8], lhs: u8, imm: u8) -> X64Emitter
+        requires { ⌜ (lhs < 16) × Room (now out) (self .at) (length (encode (aluImm8 cmp lhs imm))) ⌝ }
+        ensures { λ r. ⌜ Wrote (now (out .entry)) (self .at) (encode (aluImm8 cmp lhs imm)) (now (out .exit)) (r .at) ⌝ }
+    {
+        self.form_digit_rm_imm8(out, forms::CMP_R64_IMM8, true, lhs, imm)
+    }
+
+    // A jump over the next bytes, as many as rel says, where the condition holds.
+    pub fn jcc_rel8(self, out: &mut [u8], cc: X64Cc, rel: u8) -> X64Emitter
+        requires { ⌜ (rel < 128) × Room (now out) (self .at) (length (encode (jcc (ccOf cc) rel))) ⌝ }
+        ensures { λ r. ⌜ Wrote (now (out .entry)) (self .at) (encode (jcc (ccOf cc) rel)) (now (out .exit)) (r .at) ⌝ }
+    {
+        self.form_jump(out, forms::JCC_REL8, cc_number(cc), rel)
     }
 }

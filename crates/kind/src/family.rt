@@ -45,10 +45,10 @@ const OP_IMM: u64 = STRAIGHT
 
 const OP_IMM_32: u64 = STRAIGHT + 0x01 * ANY + 0x22 * BASE + 0x20 * SUB_SRA;
 
-// Of M the product alone.
-const OP: u64 = STRAIGHT + 0xFF * BASE + 0x01 * MULDIV + 0x21 * SUB_SRA;
+// Of M all words of 64 bits; of 32 bits all but funct3 1 to 3, which are none.
+const OP: u64 = STRAIGHT + 0xFF * BASE + 0xFF * MULDIV + 0x21 * SUB_SRA;
 
-const OP_32: u64 = STRAIGHT + 0x23 * BASE + 0x01 * MULDIV + 0x21 * SUB_SRA;
+const OP_32: u64 = STRAIGHT + 0x23 * BASE + 0xF1 * MULDIV + 0x21 * SUB_SRA;
 
 // FENCE, funct3 0, goes on; FENCE.I, funct3 1, ends the block.
 const FENCE: u64 = STRAIGHT + 0x03 * ANY + 0x02 * ENDS;

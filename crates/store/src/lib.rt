@@ -30,8 +30,8 @@ fn copy_bytes(code: &[u8], store: &mut [u8], offset: usize)
     }
 }
 
-// Code up to this length is read whole before it is written. The longest block has 2243 bytes.
-const HELD: usize = 4096;
+// Code up to this length is read whole before it is written. The longest block has 4,099 bytes.
+const HELD: usize = 8192;
 
 // Where the code is read whole before its first byte is written, the compiler need not ask whether the two slices overlap: it leaves the
 // array out and calls memmove once, which takes less time for long code than the loop over the two slices.

@@ -4,6 +4,7 @@ use mathlib.Core.List.{[], _∷_}
 use Prim.Native.Nat.{ℕ}
 use Rattle.agreement.specs.Riscv.Instruction.{Op, OpImm, Branch, Access, Instruction}
 use Rattle.agreement.specs.Riscv.Instruction.Op.{ADD, SUB, MUL, SLL, SLT, SLTU, XOR, SRL, SRA, OR, AND, ADDW, SUBW, MULW, SLLW, SRLW, SRAW}
+use Rattle.agreement.specs.Riscv.Instruction.Op.{MULH, MULHSU, MULHU, DIV, DIVU, REM, REMU, DIVW, DIVUW, REMW, REMUW}
 use Rattle.agreement.specs.Riscv.Instruction.OpImm.{ADDI, SLTI, SLTIU, XORI, ORI, ANDI, SLLI, SRLI, SRAI, ADDIW, SLLIW, SRLIW, SRAIW}
 use Rattle.agreement.specs.Riscv.Instruction.Branch.{BEQ, BNE, BLT, BGE, BLTU, BGEU}
 use Rattle.agreement.specs.Riscv.Instruction.Access.{LB, LH, LW, LD, LBU, LHU, LWU, SB, SH, SW, SD}
@@ -15,15 +16,33 @@ use Rattle.agreement.proofs.Laws.Matches.{Each, each}
 pub each-op : (P : Instruction → Type 0) → ((o : Op) → P (op o)) → P other → (f s : ℕ) → P (kindOp f s)
 unfolding kindOp Each
 each-op P t n f s =
-    let base : (o : Op) → P (match s (0x00 ⇒ op o ∷ [])) = λ o. each P s _ (t o, n) in
-    let adds : P (match s (0x00 ⇒ op ADD ∷ 0x20 ⇒ op SUB ∷ 0x01 ⇒ op MUL ∷ [])) = each P s _ (t ADD, (t SUB, (t MUL, n))) in
-    let shifts : P (match s (0x00 ⇒ op SRL ∷ 0x20 ⇒ op SRA ∷ [])) = each P s _ (t SRL, (t SRA, n)) in
-    each P f _ (adds, (base SLL, (base SLT, (base SLTU, (base XOR, (shifts, (base OR, (base AND, n))))))))
+    let two : (o m : Op) → P (match s (0x00 ⇒ op o ∷ 0x01 ⇒ op m ∷ [])) = λ o m. each P s _ (t o, (t m, n)) in
+    let three : (o p m : Op) → P (match s (0x00 ⇒ op o ∷ 0x20 ⇒ op p ∷ 0x01 ⇒ op m ∷ [])) = λ o p m. each P s _ (t o, (t p, (t m, n))) in
+    each P f _ (
+      three ADD SUB MUL,
+      (
+        two SLL MULH,
+        (
+          two SLT MULHSU,
+          (
+            two SLTU MULHU,
+            (two XOR DIV, (three SRL SRA DIVU, (two OR REM, (two AND REMU, n)))),
+          ),
+        ),
+      ),
+    )
 
 pub each-op-32 : (P : Instruction → Type 0) → ((o : Op) → P (op o)) → P other → (f s : ℕ) → P (kindOp32 f s)
 unfolding kindOp32 Each
-each-op-32 P t n f s = each P f _
-    (each P s _ (t ADDW, (t SUBW, (t MULW, n))), (each P s _ (t SLLW, n), (each P s _ (t SRLW, (t SRAW, n)), n)))
+each-op-32 P t n f s =
+    let one : (m : Op) → P (match s (0x01 ⇒ op m ∷ [])) = λ m. each P s _ (t m, n) in
+    each P f _ (
+      each P s _ (t ADDW, (t SUBW, (t MULW, n))),
+      (
+        each P s _ (t SLLW, n),
+        (one DIVW, (each P s _ (t SRLW, (t SRAW, (t DIVUW, n))), (one REMW, (one REMUW, n)))),
+      ),
+    )
 
 pub each-op-imm : (P : Instruction → Type 0) → ((o : OpImm) → P (opImm o)) → P other → (f s : ℕ) → P (kindOpImm f s)
 unfolding kindOpImm Each

@@ -91,8 +91,8 @@ each-family P f g h a b n other = n
 abbrev Short : ℕ → Word → Type 0
 Short n w = length (bytes (w .code)) ≤ n
 
-pub op-short : (k : Instruction) → Short 13 (opBody k)
-op-short k = each-family (Short 13) len-body-op (λ o. omega arith) (λ c. omega arith) (omega arith) (omega arith) (omega arith) k
+pub op-short : (k : Instruction) → Short 42 (opBody k)
+op-short k = each-family (Short 42) len-body-op (λ o. omega arith) (λ c. omega arith) (omega arith) (omega arith) (omega arith) k
 
 pub imm-short : (k : Instruction) (d : Decoded32) (i : ℕ) → Short 20 (opImmBody k d i)
 imm-short k d i =
@@ -100,7 +100,7 @@ imm-short k d i =
     (omega arith) (omega arith) (omega arith) k
 
 -- the room that is left for the store, behind loads and a body
-pub store-room : {l m m′ : List ℕ} {a b : ℕ} {xs : List ℕ} {w : Word} {e : Emitted}
-    → Room l a 34 → Wrote l a xs m b → Emits m b w m′ e → length xs + length (bytes (w .code)) ≤ 27
+pub store-room : {l m m′ : List ℕ} {a b n : ℕ} {xs : List ℕ} {w : Word} {e : Emitted}
+    → Room l a n → Wrote l a xs m b → Emits m b w m′ e → length xs + length (bytes (w .code)) + 7 ≤ n
     → Room m′ (e .em .at) 7
 store-room h p q s = record { fits = omega (arith, h .fits, p .place, p .size, q .wrote .place, q .wrote .size, s) }

@@ -98,7 +98,7 @@ fn fence_word(em: X64Emitter, out: &mut [u8], funct3: u8) -> Emitted
 
 // The match on the opcode. The immediates, the link and the target are worked out once, here.
 fn emit_by_opcode(em: X64Emitter, out: &mut [u8], pc: u64, instr: u32, d: Decoded32) -> Emitted
-    requires { ⌜ Small d × Room (now out) (em .at) 44 ⌝ }
+    requires { ⌜ Small d × Room (now out) (em .at) 63 ⌝ }
     ensures { λ r. ⌜ Emits (now (out .entry)) (em .at) (wordBy pc instr d) (now (out .exit)) r ⌝ }
 {
     let opcode = d.opcode;
@@ -133,7 +133,7 @@ fn emit_by_opcode(em: X64Emitter, out: &mut [u8], pc: u64, instr: u32, d: Decode
 
 // A word of the run at pc: its host instructions, and how the block goes on.
 pub fn emit_native_instr_x64(em: X64Emitter, out: &mut [u8], pc: u64, instr: u32) -> Emitted
-    requires { ⌜ Room (now out) (em .at) 44 ⌝ }
+    requires { ⌜ Room (now out) (em .at) 63 ⌝ }
     ensures { λ r. ⌜ Emits (now (out .entry)) (em .at) (wordAs (kind instr) pc instr) (now (out .exit)) r ⌝ }
 {
     let d = decode::decode32(instr);

@@ -64,18 +64,25 @@ fn op_sub_sra(em: X64Emitter, out: &mut [u8], funct3: u8) -> Emitted
 
 // OP with F7_MULDIV.
 fn op_muldiv(em: X64Emitter, out: &mut [u8], funct3: u8) -> Emitted
-    requires { ⌜ Room (now out) (em .at) 13 ⌝ }
+    requires { ⌜ Room (now out) (em .at) 34 ⌝ }
     ensures { λ r. ⌜ Emits (now (out .entry)) (em .at) (opBody (kindOp funct3 0x01)) (now (out .exit)) r ⌝ }
 {
     match funct3 {
-        isa::F3_ADD_SUB => goes_on(em.imul_r64_r64(out, X64Emitter::R10, X64Emitter::R11)),
+        isa::F3_MUL => goes_on(em.imul_r64_r64(out, X64Emitter::R10, X64Emitter::R11)),
+        isa::F3_MULH => goes_on(muldiv::mulh(em, out)),
+        isa::F3_MULHSU => goes_on(muldiv::mulhsu(em, out)),
+        isa::F3_MULHU => goes_on(muldiv::mulhu(em, out)),
+        isa::F3_DIV => goes_on(muldiv::quotient_s64(em, out)),
+        isa::F3_DIVU => goes_on(muldiv::quotient_u64(em, out)),
+        isa::F3_REM => goes_on(muldiv::remainder_s64(em, out)),
+        isa::F3_REMU => goes_on(muldiv::remainder_u64(em, out)),
         _ => not_emitted(em),
     }
 }
 
 // OP on R10 and R11, the result in R10.
 fn op_on_r10(em: X64Emitter, out: &mut [u8], funct3: u8, funct7: u8) -> Emitted
-    requires { ⌜ Room (now out) (em .at) 13 ⌝ }
+    requires { ⌜ Room (now out) (em .at) 42 ⌝ }
     ensures { λ r. ⌜ Emits (now (out .entry)) (em .at) (opBody (kindOp funct3 funct7)) (now (out .exit)) r ⌝ }
 {
     match funct7 {
@@ -137,21 +144,25 @@ fn op_32_sub_sra(em: X64Emitter, out: &mut [u8], funct3: u8) -> Emitted
 
 // OP-32 with F7_MULDIV.
 fn op_32_muldiv(em: X64Emitter, out: &mut [u8], funct3: u8) -> Emitted
-    requires { ⌜ Room (now out) (em .at) 13 ⌝ }
+    requires { ⌜ Room (now out) (em .at) 42 ⌝ }
     ensures { λ r. ⌜ Emits (now (out .entry)) (em .at) (opBody (kindOp32 funct3 0x01)) (now (out .exit)) r ⌝ }
 {
     match funct3 {
-        isa::F3_ADD_SUB => {
+        isa::F3_MUL => {
             let a = em.imul_r32_r32(out, X64Emitter::R10, X64Emitter::R11);
             sign_extended(a, out)
         }
+        isa::F3_DIV => sign_extended(muldiv::quotient_s32(em, out), out),
+        isa::F3_DIVU => sign_extended(muldiv::quotient_u32(em, out), out),
+        isa::F3_REM => sign_extended(muldiv::remainder_s32(em, out), out),
+        isa::F3_REMU => sign_extended(muldiv::remainder_u32(em, out), out),
         _ => not_emitted(em),
     }
 }
 
 // OP-32 on R10 and R11, the result in R10.
 fn op_32_on_r10(em: X64Emitter, out: &mut [u8], funct3: u8, funct7: u8) -> Emitted
-    requires { ⌜ Room (now out) (em .at) 13 ⌝ }
+    requires { ⌜ Room (now out) (em .at) 42 ⌝ }
     ensures { λ r. ⌜ Emits (now (out .entry)) (em .at) (opBody (kindOp32 funct3 funct7)) (now (out .exit)) r ⌝ }
 {
     match funct7 {
@@ -164,7 +175,7 @@ fn op_32_on_r10(em: X64Emitter, out: &mut [u8], funct3: u8, funct7: u8) -> Emitt
 
 // OP.
 pub fn op_word(em: X64Emitter, out: &mut [u8], d: Decoded32) -> Emitted
-    requires { ⌜ Small d × Room (now out) (em .at) 34 ⌝ }
+    requires { ⌜ Small d × Room (now out) (em .at) 63 ⌝ }
     ensures { λ r. ⌜ Emits (now (out .entry)) (em .at) (opWord (kindOp (d .funct3) (d .funct7)) d) (now (out .exit)) r ⌝ }
 {
     let a = x64_emit_load_pair(em, out, d.rs1, d.rs2);
@@ -174,7 +185,7 @@ pub fn op_word(em: X64Emitter, out: &mut [u8], d: Decoded32) -> Emitted
 
 // OP-32.
 pub fn op_32_word(em: X64Emitter, out: &mut [u8], d: Decoded32) -> Emitted
-    requires { ⌜ Small d × Room (now out) (em .at) 34 ⌝ }
+    requires { ⌜ Small d × Room (now out) (em .at) 63 ⌝ }
     ensures { λ r. ⌜ Emits (now (out .entry)) (em .at) (opWord (kindOp32 (d .funct3) (d .funct7)) d) (now (out .exit)) r ⌝ }
 {
     let a = x64_emit_load_pair(em, out, d.rs1, d.rs2);

@@ -1,5 +1,5 @@
 use borrow.Author.Needs.{needs}
-use Rattle.block.proofs.WalkWritten.{room-to-close, compiled}
+use Rattle.walk.proofs.WalkWritten.{room-to-close, compiled}
 use Rattle.block.proofs.compile_native_block.Statement.{statement}
 use Rattle.block.proofs.compile_native_block.Tie as tie
 

@@ -1,16 +1,10 @@
 use borrow.Author.Needs.{needs}
+use borrow.Author.Tests.{ne-eqb}
 use Rattle.agreement.specs.Translation.Kind.{kindOp32, match}
+use Rattle.words.proofs.Choices.{cond-same}
 use Rattle.words.proofs.Joined.{words}
-use Rattle.agreement.proofs.Laws.Matches.{missed}
 use Rattle.words.proofs.op.op_32_base.Statement.{statement}
 use Rattle.words.proofs.op.op_32_base.Tie as tie
-
--- the last arm: funct3 is no arm's pattern
-none : tie.Need-returns-4
-unfolding kindOp32
-none c =
-    let r = c .before .match .rest in
-    rw missed (search (words, needs))
 
 pub op-32-base-spec : {M : Type 1} → statement M
 unfolding kindOp32 match
@@ -32,4 +26,7 @@ op-32-base-spec =
     (λ c. let arm : tie.At-match-keys2 = search in rw (arm .match .keys2) (search (words, needs)))
     (λ c. search needs)
     (λ c. let arm : tie.At-match-keys3 = search in rw (arm .match .keys3) (search (words, needs)))
-    none)
+    (λ c.
+    let r = c .before .match .rest in
+    simp (ne-eqb _ _ (r .1), ne-eqb _ _ (r .0 .1), ne-eqb _ _ (r .0 .0 .1), cond-same)
+    (search (words, needs))))
