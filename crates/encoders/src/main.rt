@@ -163,6 +163,67 @@ fn stack_call_and_return(em: X64Emitter, out: &mut [u8]) -> X64Emitter
     c.ret(out)
 }
 
+// MUL and IMUL of one operand.
+fn wide_products(em: X64Emitter, out: &mut [u8]) -> X64Emitter
+    requires { ⌜ em .at + 32 ≤ length (now out) ⌝ }
+    ensures { λ r. ⌜ (r .at ≤ em .at + 32) × (length (now (out .exit)) ≡ length (now (out .entry))) ⌝ }
+{
+    let a = em.mul_r64(out, X64Emitter::R11);
+    a.imul_r64(out, X64Emitter::RCX)
+}
+
+// DIV and IDIV of 64 and 32 bits.
+fn quotients(em: X64Emitter, out: &mut [u8]) -> X64Emitter
+    requires { ⌜ em .at + 32 ≤ length (now out) ⌝ }
+    ensures { λ r. ⌜ (r .at ≤ em .at + 32) × (length (now (out .exit)) ≡ length (now (out .entry))) ⌝ }
+{
+    let a = em.div_r64(out, X64Emitter::R11);
+    let b = a.div_r32(out, X64Emitter::RSI);
+    let c = b.idiv_r64(out, X64Emitter::R9);
+    c.idiv_r32(out, X64Emitter::R11)
+}
+
+// CQO, CDQ, AND and XOR of 32 bits.
+fn dividends(em: X64Emitter, out: &mut [u8]) -> X64Emitter
+    requires { ⌜ em .at + 32 ≤ length (now out) ⌝ }
+    ensures { λ r. ⌜ (r .at ≤ em .at + 32) × (length (now (out .exit)) ≡ length (now (out .entry))) ⌝ }
+{
+    let a = em.cqo(out);
+    let b = a.cdq(out);
+    let c = b.and_r32_r32(out, X64Emitter::R11, X64Emitter::R11);
+    c.xor_r32_r32(out, X64Emitter::RDX, X64Emitter::RDX)
+}
+
+// ADD, OR and CMP with an immediate of one byte.
+fn small_immediates(em: X64Emitter, out: &mut [u8]) -> X64Emitter
+    requires { ⌜ em .at + 32 ≤ length (now out) ⌝ }
+    ensures { λ r. ⌜ (r .at ≤ em .at + 32) × (length (now (out .exit)) ≡ length (now (out .entry))) ⌝ }
+{
+    let a = em.add_r64_imm8(out, X64Emitter::RCX, 1);
+    let b = a.or_r64_imm8(out, X64Emitter::RAX, 0xFF);
+    b.cmp_r64_imm8(out, X64Emitter::RCX, 2)
+}
+
+// Jumps by CF and by ZF, over no byte and over as many as there can be among them.
+fn jumps_by_cf_and_zf(em: X64Emitter, out: &mut [u8]) -> X64Emitter
+    requires { ⌜ em .at + 32 ≤ length (now out) ⌝ }
+    ensures { λ r. ⌜ (r .at ≤ em .at + 32) × (length (now (out .exit)) ≡ length (now (out .entry))) ⌝ }
+{
+    let a = em.jcc_rel8(out, X64Cc::B, 7);
+    let b = a.jcc_rel8(out, X64Cc::AE, 0);
+    let c = b.jcc_rel8(out, X64Cc::E, 8);
+    c.jcc_rel8(out, X64Cc::NE, 127)
+}
+
+// Jumps by SF and OF.
+fn jumps_by_sign(em: X64Emitter, out: &mut [u8]) -> X64Emitter
+    requires { ⌜ em .at + 32 ≤ length (now out) ⌝ }
+    ensures { λ r. ⌜ (r .at ≤ em .at + 32) × (length (now (out .exit)) ≡ length (now (out .entry))) ⌝ }
+{
+    let a = em.jcc_rel8(out, X64Cc::L, 1);
+    a.jcc_rel8(out, X64Cc::GE, 2)
+}
+
 // The forms in the order of the table: PUSH, POP, MOV, ADD, SUB.
 fn moves_and_sums(em: X64Emitter, out: &mut [u8]) -> X64Emitter
     requires { ⌜ em .at + 128 ≤ length (now out) ⌝ }
@@ -207,22 +268,44 @@ fn others(em: X64Emitter, out: &mut [u8]) -> X64Emitter
     stack_call_and_return(c, out)
 }
 
+// The forms of document 02, Q-2: products and quotients of one operand, and what stands before a division.
+fn products_and_quotients(em: X64Emitter, out: &mut [u8]) -> X64Emitter
+    requires { ⌜ em .at + 128 ≤ length (now out) ⌝ }
+    ensures { λ r. ⌜ (r .at ≤ em .at + 128) × (length (now (out .exit)) ≡ length (now (out .entry))) ⌝ }
+{
+    let a = wide_products(em, out);
+    let b = quotients(a, out);
+    let c = dividends(b, out);
+    small_immediates(c, out)
+}
+
+// Jumps.
+fn jumps(em: X64Emitter, out: &mut [u8]) -> X64Emitter
+    requires { ⌜ em .at + 128 ≤ length (now out) ⌝ }
+    ensures { λ r. ⌜ (r .at ≤ em .at + 128) × (length (now (out .exit)) ≡ length (now (out .entry))) ⌝ }
+{
+    let a = jumps_by_cf_and_zf(em, out);
+    jumps_by_sign(a, out)
+}
+
 // How many bytes were written.
 fn all(out: &mut [u8]) -> usize
     ensures { λ r. ⌜ Counts r (now (out .exit)) ⌝ }
 {
-    if out.len() < 512 {
+    if out.len() < 768 {
         return 0;
     }
     let a = moves_and_sums(X64Emitter::new(), out);
     let b = logic_and_comparisons(a, out);
     let c = shifts(b, out);
     let d = others(c, out);
-    d.at
+    let e = products_and_quotients(d, out);
+    let f = jumps(e, out);
+    f.at
 }
 
 fn main() {
-    let mut out = [0u8; 512];
+    let mut out = [0u8; 768];
     let n = all(&mut out);
     io::write_all(STDOUT_FILENO, &out[..n]);
 }

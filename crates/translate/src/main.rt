@@ -58,7 +58,7 @@ fn block_of(code: &[u8], out: &mut [u8]) -> usize
 fn main() {
     let mut code = [0u8; 256];
     let n = io::read_full(STDIN_FILENO, &mut code);
-    let mut out = [0u8; 2243];
+    let mut out = [0u8; 4099];
     let k = block_of(&code[..n], &mut out);
     if !io::write_all(STDOUT_FILENO, &out[..k]) {
         io::write_all(
