@@ -1,7 +1,8 @@
--- What the translator and the manual's run share: two numbers of document 01, and a name for each of the two helpers.
+-- What the translator and the manual's run share: two numbers of documents 01 and 02, and a name for each of the two helpers.
 use Prim.Native.Nat.{ℕ}
 
--- number 5 (request Q-2): the greatest length of a block, the least output that is accepted; 67 and 64 times the 63 of DIVW
+-- document 02, Q-2, for number 5 of document 01's "Replies": the greatest length of a block, the least output that is accepted; 67 and 64
+-- times the 63 of DIVW
 abbrev pub greatest : ℕ
 greatest = 4099
 

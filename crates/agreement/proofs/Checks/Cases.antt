@@ -121,7 +121,7 @@ cases =
     (framed (dump 41 0x4C8B9300000000_4981C205000000_4C899308000000_48B80400008000000000_48BA0100000000000000))
     -- Followed by 0x00000073 (ECALL): the same block
     ∷ same 0x80000000 64 (words (0x00500093 ∷ 0x00000073 ∷ [])) (words (0x00500093 ∷ []))
-    -- 0x00500093 then 0x4020C1B3 (funct7 0x20 on funct3 4), which stands for MULH (document 02, Q-2): 102 bytes, count 1. The two
+    -- 0x00500093 then 0x4020C1B3 (funct7 0x20 on funct3 4), in place of MULH (document 02, Q-2): 102 bytes, count 1. The two
     -- register loads of the word that is not taken, 14 bytes, stay in
     ∷ translation 0x80000000 64 (words (0x00500093 ∷ 0x4020C1B3 ∷ [])) 0 (102 ∷ 1 ∷ [])
     (framed (dump 21 0x4C8B9300000000_4981C205000000_4C899308000000

@@ -58,7 +58,7 @@ dividing-x2 : readAs dividingTurn d0 .registers 2 ≡ 2 ^ 64 - 1
 unfolding reads-a-turn valueOp quotient writeX read
 dividing-x2 = refl
 
--- not one step more than there are instructions; x2 all ones
+-- no more steps than the block has instructions; x2 all ones
 pub record Divided (es : List Event) (m : GuestState) : Type 0 where
   pub e : Event
   pub events : es ≡ e ∷ []
@@ -88,20 +88,20 @@ divided = dividing-ends _ _ (dividing .events) _ _ (dividing .history) (dividing
 pub divided-x2 : read 8 (dividing .rb′) (8 * 2) ≡ 2 ^ 64 - 1
 divided-x2 = dividing .at-slots 2 (omega arith) ∙ divided .after
 
--- 2. Where the number of steps is said exactly: in turns that meet no word that divides. That none of their blocks jumps is proved
--- (Words/Undivided); that no more turns are left out than these is computed here
+-- 2. The number of steps is exact in turns that meet no word that divides. That the blocks of such turns do not jump is proved
+-- (Words/Undivided); here it is computed that no other turns are left out
 
--- in turns that read one of these words each and then `rest`, such a word is met in all of them (true) or in none (false)
-abbrev met-in : Bool → List ℕ → List ℕ → Bool
-met-in t rest [] = true
-met-in true rest (w ∷ ws) = not (undivided 64 (words (w ∷ rest))) && met-in true rest ws
-met-in false rest (w ∷ ws) = undivided 64 (words (w ∷ rest)) && met-in false rest ws
+-- of turns that read one of these words each and then `rest`: is a word that divides met in all of them (true), in none (false)
+abbrev metIn : Bool → List ℕ → List ℕ → Bool
+metIn t rest [] = true
+metIn true rest (w ∷ ws) = not (undivided 64 (words (w ∷ rest))) && metIn true rest ws
+metIn false rest (w ∷ ws) = undivided 64 (words (w ∷ rest)) && metIn false rest ws
 
 -- DIV, DIVU, REM, REMU, and their W forms
 abbrev dividingWords : List ℕ
 dividingWords = 0x0220C1B3 ∷ 0x0220D1B3 ∷ 0x0220E1B3 ∷ 0x0220F1B3 ∷ 0x0220C1BB ∷ 0x0220D1BB ∷ 0x0220E1BB ∷ 0x0220F1BB ∷ []
 
--- one of every other kind behind which the turn goes on: OP, OP-32 and M; OP-IMM and OP-IMM-32; LUI, AUIPC, FENCE
+-- one word of every other kind, as in Checks/Vectors. The turn goes on behind OP, OP-32 and M; OP-IMM and OP-IMM-32; LUI, AUIPC, FENCE
 abbrev straightWords : List ℕ
 straightWords =
     0x002F80B3 ∷ 0x40DD0433 ∷ 0x018A97B3 ∷ 0x00382B33 ∷ 0x00E5BEB3 ∷ 0x019342B3 ∷ 0x0040D633 ∷ 0x40FE59B3 ∷ 0x01ABED33 ∷ 0x00597133
@@ -109,7 +109,7 @@ straightWords =
     ∷ 0xFFF08F93 ∷ 0x8003AE13 ∷ 0x7FF6BC93 ∷ 0xEEF9CB13 ∷ 0x555CE993 ∷ 0xAAAFF813 ∷ 0x021F1113 ∷ 0x001CD313 ∷ 0x43EA5513
     ∷ 0xFFEA849B ∷ 0x01F7971B ∷ 0x0005591B ∷ 0x4112DB1B ∷ 0x800003B7 ∷ 0x80000417 ∷ 0x0FF0000F ∷ []
 
--- and where it ends: branches; JAL, JALR, FENCE.I; loads and stores; ECALL, and OP with funct7 0x20 and funct3 4
+-- and ends behind branches; JAL, JALR, FENCE.I; loads and stores; or at ECALL, and OP with funct7 0x20 and funct3 4
 abbrev endingWords : List ℕ
 endingWords =
     0x81F18063 ∷ 0x7FB41FE3 ∷ 0xFF76CFE3 ∷ 0x013950E3 ∷ 0x7EFBE063 ∷ 0x00BE7F63 ∷ 0x800000EF ∷ 0x7FF900E7 ∷ 0x0000100F
@@ -117,8 +117,8 @@ endingWords =
     ∷ 0xFE9DB2A3 ∷ 0x00000073 ∷ 0x4020C1B3 ∷ []
 
 -- alone, and with DIV behind them
-words-pass : met-in true [] dividingWords && (met-in false [] straightWords && (met-in false [] endingWords
-    && (met-in true (0x0220C1B3 ∷ []) straightWords && met-in false (0x0220C1B3 ∷ []) endingWords))) ≡ true
+words-pass : metIn true [] dividingWords && (metIn false [] straightWords && (metIn false [] endingWords
+    && (metIn true (0x0220C1B3 ∷ []) straightWords && metIn false (0x0220C1B3 ∷ []) endingWords))) ≡ true
 unfolding reads-a-turn undivided unlessDividing divides
 words-pass = refl
 

@@ -1,6 +1,6 @@
--- What has no next state. A fetch, a read or a write that is not permitted: for each instruction that touches memory the least
--- that has to be permitted is enough, and one address less is not; the instruction stands at address 0, every register is 0x1000.
--- A division by zero, or whose quotient does not fit. A jump backward.
+-- What has no next state: a fetch, a read or a write that is not permitted, a division by 0 or whose quotient does not fit, a jump
+-- backward. For each instruction that touches memory the least that has to be permitted is enough, and one address less is not; the
+-- instruction stands at address 0, every register is 0x1000.
 use mathlib.Core.Bool.{Bool, _&&_, cond, false, not, true}
 use mathlib.Core.List.{List, [], _∷_}
 use mathlib.Core.Option.{Option, none, some}

@@ -169,8 +169,8 @@ pairs-pass : pairsPass pairs ≡ true
 unfolding exec asSigned asBits pairs
 pairs-pass = refl
 
--- 3. Jumps by 0x7F bytes from behind an instruction that ends at 0x1000, in each of the 64 settings of the flags, which `number`
--- counts: bit n of m says that the jump is taken in setting n
+-- 3. Jumps over 0x7F bytes, 0x1000 being the address behind the jump, in each of the 64 settings of the flags: bit n of m says that the
+-- jump is taken in the setting whose `number` is n
 
 abbrev setting : ℕ → Flags
 setting n = record {

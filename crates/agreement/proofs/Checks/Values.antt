@@ -12,7 +12,8 @@ use Rattle.agreement.specs.Riscv.Instruction.{Op, bitsOf, overflows, quo
 use Rattle.agreement.specs.Riscv.Instruction.Op.{DIV, DIVU, DIVUW, DIVW, MULH, MULHSU, MULHU, REM, REMU, REMUW, REMW}
 use Rattle.agreement.specs.Translation.Emit.{bodyOp}
 use Rattle.agreement.specs.X86.Encode.{bytes}
-use Rattle.agreement.specs.X86.Flags.{asBits, asSigned, imulFlags, shiftFlags, shiftOverflow, shifted, shiftedOut, smulFlags, umulFlags}
+use Rattle.agreement.specs.X86.Flags.{asBits, asSigned, imulFlags, shiftFlags, shiftOverflow, shifted, shiftedOut, smulFlags}
+use Rattle.agreement.specs.X86.Flags.{umulFlags}
 use Rattle.agreement.specs.X86.Form.{R10, R11}
 use Rattle.agreement.specs.X86.Memory.{nth}
 use Rattle.agreement.specs.X86.State.{State}
@@ -64,6 +65,7 @@ values =
     ∷ gives DIVW 0x80000000 0x555500000000 (2 ^ 64 - 1)
     ∷ gives DIVUW 0x1234FFFFFFF9 0x555500000002 0x7FFFFFFC
     ∷ gives REMUW 0x1234FFFFFFF9 0x5555FFFFFFFE 0xFFFFFFFFFFFFFFF9
+    ∷ gives REMUW 0x123400000007 0x555500000005 2
     ∷ gives MULH (2 ^ 64 - 7) 3 (2 ^ 64 - 1)
     ∷ gives MULH (2 ^ 64 - 7) (2 ^ 64 - 3) 0
     ∷ gives MULHSU (2 ^ 63 - 1) (2 ^ 64 - 1) (2 ^ 63 - 2)

@@ -1,5 +1,5 @@
--- Further vectors of the definitions: replies, bytes and immediates as the original Rust gives them. Of the words that the Rust does
--- not take, the rest of M (document 02, Q-2), the bytes are what an assembler makes of their host instructions.
+-- Further vectors of the definitions: replies, bytes and immediates as the original Rust gives them. Two things are document 02's, Q-2:
+-- number 5 goes by 4,099 in place of 2,243, and the rest of M is taken; its bytes are what an assembler makes of the host instructions.
 use mathlib.Core.Path.{_≡_, refl}
 use mathlib.Core.Bool.{Bool, true, _&&_}
 use mathlib.Core.List.{List, [], _∷_, _++_}

@@ -296,8 +296,9 @@ module _ (t : Turn) (m : GuestState) (rb : RegisterBytes) (ty : Typed t) (un : U
       r14 = e .r14;
       r15 = e .r15;
       steps = record {
-        most = k .most;
-        exact = λ d. k .exact (undivided-jumpless limit (m .pc) (t .made) (t .helper16) (t .helperMem) halfwords (rw (un) d));
+        most = omega (arith, k .most);
+        exact = λ d.
+            omega (arith, k .exact (undivided-jumpless limit (m .pc) (t .made) (t .helper16) (t .helperMem) halfwords (rw un d)));
       };
       log = l;
     }

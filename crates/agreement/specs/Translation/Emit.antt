@@ -28,9 +28,9 @@ loadReg host r = load host RBX (8 * r)
 abbrev pub storeReg : ℕ → ℕ → List Instr
 storeReg r host = cond (eqb r 0) [] (store RBX (8 * r) host ∷ [])
 
--- Document 02, Q-2, the rest of M: R10 divided by R11, RAX and RDX getting quotient and remainder. The value that the manual
--- gives where the host would fault is first put into the one that is asked for, q; then one test of the divisor jumps over
--- the division or does not.
+-- Document 02, Q-2, the rest of M: R10 divided by R11, RAX and RDX getting quotient and remainder. The manual's value for a divisor at
+-- which the host may fault (0, and -1 where it is signed) is first put into the one that is asked for, q; then one test of the divisor
+-- jumps over the division or does not.
 
 -- instructions, and before them a conditional jump to what stands behind them
 abbrev pub skipIf : Cc → List Instr → List Instr

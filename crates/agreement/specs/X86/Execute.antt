@@ -62,15 +62,15 @@ accesses ret s = record { read = span 8 (s .regs RSP); written = [] }
 abbrev pub dividend : ℕ → State → ℕ
 dividend w s = s .regs RDX % 2 ^ w * 2 ^ w + s .regs RAX % 2 ^ w
 
--- #DE, of n divided by d: "if the source operand (divisor) is 0" and "if the quotient is too large for the designated
--- register", whose range of integers z is mag z < 2^w / 2 where it is signed
+-- #DE, of n divided by d: "If the source operand (divisor) is 0" and "If the quotient is too large for the designated register". Signed
+-- numbers of w bits are the integers z with mag z < 2^w / 2: the kit's `mag` is m both for m and for -(m + 1)
 unfoldable pub divisionFaults : MulDiv → ℕ → ℕ → ℕ → Bool
 divisionFaults umul w n d = false
 divisionFaults smul w n d = false
 divisionFaults udiv w n d = eqb d 0 || leb (2 ^ w) (n / d)
 divisionFaults sdiv w n d = eqb d 0 || leb (2 ^ w / 2) (mag (quotZ (asSigned (2 * w) n) (asSigned w d)))
 
--- does an instruction fault whatever it may access
+-- does an instruction fault (#DE), whatever memory it may access
 unfoldable pub faults : Instr → State → Bool
 faults (push r) s = false
 faults (pop r) s = false

@@ -1,7 +1,7 @@
 -- One step: fetch at RIP, decode, execute. Bytes that do not decode, divisions that fault (#DE) and accesses that are not
 -- permitted have no next state; the bytes behind an instruction need not be fetchable. A store is seen by the next fetch at once,
--- where the SDM asks for a jump or a serializing instruction first: the blocks never write themselves. CALL and RET do not test
--- that the target is canonical.
+-- where the SDM asks for a jump or a serializing instruction first: the blocks never write themselves. CALL, RET and Jcc do not
+-- test that the target is canonical.
 use mathlib.Core.Path.{_≡_}
 use mathlib.Core.Bool.{Bool, true, false}
 use mathlib.Core.List.{List, [], _∷_, _++_}
