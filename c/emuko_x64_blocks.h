@@ -13,7 +13,7 @@ extern "C" {
 #endif
 
 /* The greatest and the least length of a block, and the greatest number of guest instructions in it. */
-#define EMUKO_GREATEST_BLOCK 2243
+#define EMUKO_GREATEST_BLOCK 4099
 #define EMUKO_LEAST_BLOCK 67
 #define EMUKO_MOST_STEPS 64
 
@@ -44,7 +44,7 @@ uint32_t emuko_word_kind(uint32_t instr);
  *     2 start          the start is odd
  *     3 index          the first instruction lacks its halfword of this index, 0 or 1
  *     4 word           the first word is not taken: neither translated nor handed to a helper
- *     5                the output has fewer than EMUKO_GREATEST_BLOCK bytes */
+ *     5                the output has fewer than EMUKO_GREATEST_BLOCK bytes, however short this block would be */
 emuko_reply emuko_translate(uint64_t start, uint32_t limit, const uint16_t *halfwords, size_t halfwords_len, uint64_t helper16,
                             uint64_t helper_mem, uint8_t *out, size_t out_len);
 
@@ -62,7 +62,7 @@ typedef struct {
 } emuko_result;
 
 /* A block, in memory that may be executed. `regs` are the 32 guest registers, the first of them 0; the next three arguments go on to a
- * helper, and the last two are not used.
+ * helper, and the last two are not used. Division by zero and the signed overflow give the RISC-V manual's values and never a fault.
  *
  * It does what the guest's code says as long as the halfwords that it was made from are those that stand in the guest's code at its entry,
  * which nothing here tests. Behind FENCE.I, which ends its block, the guest may count on its stores to code being seen: whoever keeps

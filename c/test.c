@@ -28,6 +28,9 @@ static const uint16_t code[] = {0x0093, 0x0050, 0x8133, 0x0010, 0xB183, 0x0000, 
 /* FENCE.I, which ends its block; ADDI x1, x0, 5. */
 static const uint16_t fence_i[] = {0x100F, 0x0000, 0x0093, 0x0050};
 
+/* DIV x3, x1, x2; REM x4, x1, x2; DIVW x5, x1, x2; REMUW x6, x1, x2; DIV x0, x1, x0. */
+static const uint16_t divisions[] = {0xC1B3, 0x0220, 0xE233, 0x0220, 0xC2BB, 0x0220, 0xF33B, 0x0220, 0xC033, 0x0200};
+
 /* How many of the halfwords a translation needs. */
 static size_t needed(const uint16_t *halfwords, size_t length, uint32_t limit) {
     size_t k = 0;
@@ -56,17 +59,30 @@ static uint64_t address(emuko_helper helper) {
     return number;
 }
 
-int main(void) {
-    CHECK(emuko_word_kind(0x022091B3) == EMUKO_NOT_TAKEN);
+/* The block at an offset of the store. */
+static emuko_block entry(uint8_t *store, uint64_t offset) {
+    emuko_block block;
+    void *at = store + offset;
+    memcpy(&block, &at, sizeof block);
+    return block;
+}
+
+static void kinds(void) {
+    CHECK(emuko_word_kind(0x4020C1B3) == EMUKO_NOT_TAKEN);
     CHECK(emuko_word_kind(0x00500093) == EMUKO_STRAIGHT);
+    CHECK(emuko_word_kind(0x0220C1B3) == EMUKO_STRAIGHT);
     CHECK(emuko_word_kind(0x0000006F) == EMUKO_ENDING);
     CHECK(emuko_word_kind(0x0000000F) == EMUKO_STRAIGHT);
     CHECK(emuko_word_kind(0x0000100F) == EMUKO_ENDING);
     CHECK(emuko_word_kind(0x0000B183) == EMUKO_MEMORY_HELPER);
+}
+
+static uint8_t out[EMUKO_GREATEST_BLOCK];
+
+/* A block that ends behind FENCE.I, and every refusal; then a load's block, translated, placed and entered. */
+static void with_a_helper(uint8_t *store, size_t size) {
     size_t length = needed(code, sizeof code / sizeof code[0], 64);
     CHECK(length == 6);
-
-    static uint8_t out[EMUKO_GREATEST_BLOCK];
     CHECK(needed(fence_i, sizeof fence_i / sizeof fence_i[0], 64) == 2);
     emuko_reply fenced = emuko_translate(START, 64, fence_i, sizeof fence_i / sizeof fence_i[0], 0, 0, out, sizeof out);
     CHECK(fenced.number == 0 && fenced.first == 67 && fenced.second == 1);
@@ -79,21 +95,44 @@ int main(void) {
     CHECK(emuko_translate(START, 1, code, 1, 0, 0, out, sizeof out).first == 1);
     CHECK(emuko_translate(START, 1, code, length, 0, 0, out, sizeof out - 1).number == 5);
 
-    size_t size = 4096;
-    uint8_t *store = mmap(NULL, size, PROT_READ | PROT_WRITE | PROT_EXEC, MAP_PRIVATE | MAP_ANONYMOUS, -1, 0);
-    CHECK(store != MAP_FAILED);
     emuko_reply placed = emuko_place(out, reply.first, store, size, 5);
     CHECK(placed.number == 0 && placed.first == 8 && placed.second == 8 + reply.first);
     CHECK(emuko_place(out, reply.first, store, size, size + 1).number == 6);
     CHECK(emuko_place(out, reply.first, store, size, size).number == 7);
-
-    emuko_block block;
-    void *entry = store + placed.first;
-    memcpy(&block, &entry, sizeof block);
     uint64_t regs[32] = {0};
-    emuko_result result = block(regs, regs, &regs[30], &regs[31], NULL, NULL);
+    emuko_result result = entry(store, placed.first)(regs, regs, &regs[30], &regs[31], NULL, NULL);
     CHECK(result.next_pc == START + 12 && result.executed == 3);
     CHECK(regs[0] == 0 && regs[1] == 5 && regs[2] == 10 && regs[3] == 1005 && regs[4] == 0);
-    puts("c/test.c: a block was translated, placed and entered");
+}
+
+/* Divisions as usual, by zero, and where the signed quotient overflows. */
+static void dividing(uint8_t *store, size_t size) {
+    emuko_reply reply = emuko_translate(START, 64, divisions, sizeof divisions / sizeof divisions[0], 0, 0, out, sizeof out);
+    CHECK(reply.number == 0 && reply.second == 5);
+    emuko_reply placed = emuko_place(out, reply.first, store, size, 0);
+    CHECK(placed.number == 0);
+    const uint64_t minus_one = UINT64_MAX, most_negative = (uint64_t)1 << 63, minus_2_31 = 0xFFFFFFFF80000000;
+    const uint64_t rows[][6] = {
+        {(uint64_t)-7, 2, (uint64_t)-3, minus_one, (uint64_t)-3, 1},
+        {7, 0, minus_one, 7, minus_one, 7},
+        {most_negative, minus_one, most_negative, 0, 0, 0},
+        {minus_2_31, minus_one, 0x80000000, 0, minus_2_31, minus_2_31},
+    };
+    for (size_t k = 0; k < sizeof rows / sizeof rows[0]; k++) {
+        uint64_t regs[32] = {0, rows[k][0], rows[k][1]};
+        emuko_result result = entry(store, placed.first)(regs, NULL, NULL, NULL, NULL, NULL);
+        CHECK(result.next_pc == START + 20 && result.executed == 5 && regs[0] == 0);
+        CHECK(memcmp(&regs[1], rows[k], sizeof rows[k]) == 0);
+    }
+}
+
+int main(void) {
+    kinds();
+    size_t size = 8192;
+    uint8_t *store = mmap(NULL, size, PROT_READ | PROT_WRITE | PROT_EXEC, MAP_PRIVATE | MAP_ANONYMOUS, -1, 0);
+    CHECK(store != MAP_FAILED);
+    with_a_helper(store, size);
+    dividing(store, size);
+    puts("c/test.c: blocks were translated, placed and entered");
     return 0;
 }

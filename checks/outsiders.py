@@ -1,7 +1,7 @@
 #!/usr/bin/env python3
 """Blocks read by objdump and compared with qemu-riscv64: what others say of the definitions. Not part of the gate.
 
-    checks/outsiders.py [--seed N] [--blocks N] [--runs N] [--programs N] [--spoil]
+    checks/outsiders.py [--seed N] [--blocks N] [--runs N] [--programs N] [--pairs N] [--spoil]
 
 Needs the programs translate and, for the third part, replay (`rt check translate` and `rt check replay` at the repository's root build them
 into target/bin), objdump (binutils) for the first part, and an x86-64 Linux with qemu-riscv64 (Debian: qemu-user) for the others;
@@ -9,7 +9,8 @@ QEMU_RISCV64 may name the latter. A part whose tool is missing, or of which no r
 
 1. objdump: random runs are translated, and objdump reads the blocks. Instruction boundaries must meet every block's start and
    end, nothing may be (bad), opening and closing must be document 01's, and between them every instruction must be the one
-   that the word's row in the table below says, operands included.
+   that the word's row in the table below says (the rest of M has its own, muldiv.py), operands included. A jump's target is read as
+   the number of bytes that it skips.
 2. qemu: random runs of straight words, with or without a jump, a branch or FENCE.I at the end, are translated and entered on this
    processor. The same words stand in the memory of a RISC-V program under qemu-riscv64, which is led through them by single
    steps over its debugger's port. All registers and the pc must be the same after the block's count of steps. JALR has funct3
@@ -17,8 +18,11 @@ QEMU_RISCV64 may name the latter. A part whose tool is missing, or of which no r
 3. changed code: random loops that store a word over one of their own, then have FENCE.I, are run block by block on this processor, and by
    single steps under qemu. Blocks are kept by their pc, and all are dropped behind a FENCE.I. The store, which is a helper's in a block, is
    done here. All registers and the pc must be the same after the last step.
+4. pairs: a block of the thirteen words of M is entered on this processor with pairs of operands, all pairs of corners first, then random
+   ones with corners often. A RISC-V program of the same words computes all of them under qemu-riscv64. Every result must be the same.
 
-With --spoil, each part changes one thing (a byte of a block, a word of a run, that blocks are dropped) and must notice it by itself.
+With --spoil, each part changes one thing (a byte of a block, a word of a run, that blocks are dropped, a word of M) and must notice it by
+itself.
 
 Ends with exit code 0 where no part found a disagreement (with --spoil: where every part found one), 1 where some part did (did not),
 2 where nothing could be checked.
@@ -39,6 +43,7 @@ import sys
 import tempfile
 import time
 
+import muldiv
 from replies import is_fence_i
 
 ROOT = os.path.dirname(os.path.dirname(os.path.abspath(__file__)))
@@ -81,9 +86,15 @@ class Words:
     def twelve(self):
         return self.rng.choice((0, 1, 0x7FF, 0x800, 0xFFF)) if self.rng.random() < .3 else self.rng.randrange(4096)
 
+    def rest_of_m(self):
+        opcode, funct3 = self.rng.choice(tuple(muldiv.BODIES))
+        return self.word(opcode, funct3, 1 << 5 | self.register())
+
     def straight(self):
         rng = self.rng
-        sort = rng.randrange(9)
+        sort = rng.randrange(11)
+        if sort > 8:
+            return self.rest_of_m()
         if sort == 0:
             return rng.randrange(1 << 20) << 12 | self.register() << 7 | rng.choice((0x37, 0x17))
         if sort in (1, 2):
@@ -123,8 +134,10 @@ class Words:
     def refused(self):
         rng = self.rng
         return rng.choice((
-            self.word(0x33, rng.randrange(1, 8), 1 << 5 | self.register()),
+            self.word(0x33, rng.choice((1, 2, 3, 4, 6, 7)), 32 << 5 | self.register()),
+            self.word(0x33, rng.randrange(8), rng.randrange(2, 32) << 5 | self.register()),
             self.word(0x3B, rng.choice((2, 3, 4, 6, 7)), self.register()),
+            self.word(0x3B, rng.choice((1, 2, 3)), 1 << 5 | self.register()),
             self.word(0x13, 1, rng.randrange(1, 64) << 6 | rng.randrange(64)),
             self.word(0x1B, rng.choice((2, 3, 4, 6, 7)), self.twelve()),
             self.word(0x63, rng.choice((2, 3)), self.twelve()),
@@ -152,6 +165,10 @@ OPENING = ["push rbx", "push rbp", "push r12", "push r13", "push r14", "push r15
 CLOSING = ["add rsp,0x8", "pop r15", "pop r14", "pop r13", "pop r12", "pop rbp", "pop rbx", "ret"]
 
 
+def destination(word):
+    return word >> 7 & 31
+
+
 def signed(value, width):
     value &= (1 << width) - 1
     return value - (1 << width) if value >> (width - 1) else value
@@ -169,64 +186,91 @@ def store(register, host):
     return [f"mov QWORD PTR [rbx+{hex(8 * register)}],{host}"] if register else []
 
 
-def host_instructions(word, pc):
-    """The host instructions of a word, and 'on', 'ends' (RAX is set by them), 'stops' (by the block's end), 'helper' or 'refused'."""
-    opcode, rd, funct3 = word & 0x7F, word >> 7 & 31, word >> 12 & 7
-    rs1, rs2, seven = word >> 15 & 31, word >> 20 & 31, word >> 25
-    i = signed(word >> 20, 12)
-    set_less = lambda condition: [f"set{condition} al", "movzx r10,al"]
-    if opcode in (0x37, 0x17):
-        value = signed(word & 0xFFFFF000, 32) + (pc if opcode == 0x17 else 0)
-        return ([f"movabs r10,{number(value)}"] + store(rd, "r10") if rd else []), "on"
-    if opcode == 0x6F:
+def upper_immediate(word, pc):
+    """LUI and AUIPC."""
+    value = signed(word & 0xFFFFF000, 32) + (pc if word & 0x7F == 0x17 else 0)
+    rd = destination(word)
+    return ([f"movabs r10,{number(value)}"] + store(rd, "r10") if rd else []), "on"
+
+
+def jump(word, pc):
+    """JAL and JALR."""
+    rd = destination(word)
+    if word & 0x7F == 0x6F:
         offset = signed(word >> 31 << 20 | (word >> 12 & 255) << 12 | (word >> 20 & 1) << 11 | (word >> 21 & 1023) << 1, 21)
         link = [f"movabs r10,{number(pc + 4)}"] + store(rd, "r10") if rd else []
         return link + [f"movabs rax,{number(pc + offset)}"], "ends"
-    if opcode == 0x67:
-        link = [f"movabs r11,{number(pc + 4)}"] + store(rd, "r11") if rd else []
-        return [load("r10", rs1), f"add r10,{number(i)}", f"and r10,{number(-2)}"] + link + ["mov rax,r10"], "ends"
-    if opcode == 0x63:
-        text = [load("r10", rs1), load("r11", rs2), "cmp r10,r11"]
-        if funct3 not in BRANCH:
-            return text, "refused"
-        offset = signed(word >> 31 << 12 | (word >> 7 & 1) << 11 | (word >> 25 & 63) << 5 | (word >> 8 & 15) << 1, 13)
-        return text + [f"movabs r11,{number(pc + 4)}", f"movabs rax,{number(pc + offset)}", f"cmov{BRANCH[funct3]} r11,rax",
-                       "mov rax,r11"], "ends"
-    if opcode == 0x13:
-        text = [load("r10", rs1)]
-        shift = {(1, 0): "shl", (5, 0): "shr", (5, 16): "sar"}.get((funct3, word >> 26))
-        if funct3 in (2, 3):
-            text += [f"cmp r10,{number(i)}"] + set_less("l" if funct3 == 2 else "b")
-        elif funct3 in IMM:
-            text += [f"{IMM[funct3]} r10,{number(i)}"]
-        elif shift:
-            text += [f"{shift} r10,{hex(word >> 20 & 63)}"]
-        else:
-            return text, "refused"
-        return text + store(rd, "r10"), "on"
-    if opcode == 0x1B:
-        text = [load("r10", rs1)]
-        shift = {(1, 0): "shl", (5, 0): "shr", (5, 32): "sar"}.get((funct3, seven))
+    link = [f"movabs r11,{number(pc + 4)}"] + store(rd, "r11") if rd else []
+    target = [load("r10", word >> 15 & 31), f"add r10,{number(signed(word >> 20, 12))}", f"and r10,{number(-2)}"]
+    return target + link + ["mov rax,r10"], "ends"
+
+
+def branch(word, pc):
+    text = [load("r10", word >> 15 & 31), load("r11", word >> 20 & 31), "cmp r10,r11"]
+    condition = BRANCH.get(word >> 12 & 7)
+    if condition is None:
+        return text, "refused"
+    offset = signed(word >> 31 << 12 | (word >> 7 & 1) << 11 | (word >> 25 & 63) << 5 | (word >> 8 & 15) << 1, 13)
+    return text + [f"movabs r11,{number(pc + 4)}", f"movabs rax,{number(pc + offset)}", f"cmov{condition} r11,rax", "mov rax,r11"], "ends"
+
+
+def set_less(condition):
+    return [f"set{condition} al", "movzx r10,al"]
+
+
+def immediate(word, _pc):
+    """OP_IMM and OP_IMM_32."""
+    funct3, i, text = word >> 12 & 7, number(signed(word >> 20, 12)), [load("r10", word >> 15 & 31)]
+    if word & 0x7F == 0x1B:
+        shift = {(1, 0): "shl", (5, 0): "shr", (5, 32): "sar"}.get((funct3, word >> 25))
         if funct3 == 0:
-            text += [f"add r10,{number(i)}"]
+            text += [f"add r10,{i}"]
         elif shift:
-            text += [f"{shift} r10d,{hex(rs2)}"]
+            text += [f"{shift} r10d,{hex(word >> 20 & 31)}"]
         else:
             return text, "refused"
-        return text + ["movsxd r10,r10d"] + store(rd, "r10"), "on"
-    if opcode in (0x33, 0x3B):
-        text = [load("r10", rs1), load("r11", rs2)]
-        name = (OP if opcode == 0x33 else OP32).get((seven, funct3))
-        if name is None:
-            return text, "refused"
-        a, b = ("r10", "r11") if opcode == 0x33 else ("r10d", "r11d")
-        if name in ("shl", "shr", "sar"):
-            text += ["mov rcx,r11"] + ([] if opcode == 0x33 else ["and rcx,0x1f"]) + [f"{name} {a},cl"]
-        elif name in ("slt", "sltu"):
-            text += ["cmp r10,r11"] + set_less("l" if name == "slt" else "b")
-        else:
-            text += [f"{name} {a},{b}"]
-        return text + ([] if opcode == 0x33 else ["movsxd r10,r10d"]) + store(rd, "r10"), "on"
+        return text + ["movsxd r10,r10d"] + store(destination(word), "r10"), "on"
+    shift = {(1, 0): "shl", (5, 0): "shr", (5, 16): "sar"}.get((funct3, word >> 26))
+    if funct3 in (2, 3):
+        text += [f"cmp r10,{i}"] + set_less("l" if funct3 == 2 else "b")
+    elif funct3 in IMM:
+        text += [f"{IMM[funct3]} r10,{i}"]
+    elif shift:
+        text += [f"{shift} r10,{hex(word >> 20 & 63)}"]
+    else:
+        return text, "refused"
+    return text + store(destination(word), "r10"), "on"
+
+
+def registers(word, _pc):
+    """OP and OP_32."""
+    wide = word & 0x7F == 0x33
+    text = [load("r10", word >> 15 & 31), load("r11", word >> 20 & 31)]
+    result = store(destination(word), "r10")
+    if muldiv.key(word):
+        return text + muldiv.instructions(muldiv.key(word)) + result, "on"
+    name = (OP if wide else OP32).get((word >> 25, word >> 12 & 7))
+    if name is None:
+        return text, "refused"
+    a, b = ("r10", "r11") if wide else ("r10d", "r11d")
+    if name in ("shl", "shr", "sar"):
+        text += ["mov rcx,r11"] + ([] if wide else ["and rcx,0x1f"]) + [f"{name} {a},cl"]
+    elif name in ("slt", "sltu"):
+        text += ["cmp r10,r11"] + set_less("l" if name == "slt" else "b")
+    else:
+        text += [f"{name} {a},{b}"]
+    return text + ([] if wide else ["movsxd r10,r10d"]) + result, "on"
+
+
+FAMILIES = {0x37: upper_immediate, 0x17: upper_immediate, 0x6F: jump, 0x67: jump, 0x63: branch, 0x13: immediate, 0x1B: immediate,
+            0x33: registers, 0x3B: registers}
+
+
+def host_instructions(word, pc):
+    """The host instructions of a word, and 'on', 'ends' (RAX is set by them), 'stops' (by the block's end), 'helper' or 'refused'."""
+    opcode, funct3 = word & 0x7F, word >> 12 & 7
+    if opcode in FAMILIES:
+        return FAMILIES[opcode](word, pc)
     if opcode == 0x0F and funct3 < 2:
         return [], "stops" if funct3 == 1 else "on"
     if opcode == 0x03 and funct3 < 7 or opcode == 0x23 and funct3 < 4:
@@ -265,7 +309,7 @@ def expected(code):
 
 
 def disassembled(data):
-    """Place, length and text of each instruction, as objdump reads them."""
+    """Place, length and text of each instruction, as objdump reads them; jumps relative."""
     with tempfile.NamedTemporaryFile() as file:
         file.write(data)
         file.flush()
@@ -275,9 +319,15 @@ def disassembled(data):
     for line in output.splitlines():
         match = re.match(r"\s*([0-9a-f]+):\t((?:[0-9a-f]{2} )+)\s*\t?(.*)$", line)
         if match:
-            text = " ".join(match[3].split())
-            result.append((int(match[1], 16), len(match[2].split()), text))
+            place, length = int(match[1], 16), len(match[2].split())
+            result.append((place, length, relative(" ".join(match[3].split()), place + length)))
     return result
+
+
+def relative(text, behind):
+    """A jump's text with the number of bytes that it skips in the place of its target; others as they are."""
+    match = re.fullmatch(r"(j\w+) 0x([0-9a-f]+)", text)
+    return f"{match[1]} {int(match[2], 16) - behind:+}" if match else text
 
 
 def runs_for_objdump(words, number_of_runs):
@@ -318,7 +368,7 @@ def check_objdump(words, number_of_runs, spoil):
         _, at, length, _ = blocks[len(blocks) // 2]
         data[at + length // 2] ^= 1
     by_place = {place: (length, text) for place, length, text in disassembled(bytes(data))} if blocks else {}
-    instructions = 0
+    instructions = rest = 0
     for code, at, length, want in blocks:
         place, texts = at, []
         while place < at + length:
@@ -332,7 +382,9 @@ def check_objdump(words, number_of_runs, spoil):
             demand(is_text == want_text, f"instruction {k} of the block of {code.hex()}: {is_text}, not {want_text}")
         demand(len(texts) == len(want), "number of instructions of the block of", code.hex())
         instructions += len(texts)
-    print(f"objdump: {len(blocks)} blocks, {len(data)} bytes, {instructions} instructions as expected; {refused} runs refused")
+        rest += sum(bool(re.fullmatch(r"(mul|imul|div|idiv) \w+", text)) for text in texts)
+    print(f"objdump: {len(blocks)} blocks, {len(data)} bytes, {instructions} instructions as expected, {rest} words of the rest of M among "
+          f"them; {refused} runs refused")
 
 
 # ---- blocks entered on this processor
@@ -438,15 +490,29 @@ class Qemu:
         self.folder.cleanup()
 
 
+CORNERS = tuple(value & M64 for value in (
+    0, 1, 2, 3, 7, -1, -2, -3, -7, 31, 32, 63, 64, (1 << 31) - 1, 1 << 31, (1 << 31) + 1, -(1 << 31), -(1 << 31) - 1, (1 << 32) - 1,
+    1 << 32, (1 << 32) + 1, -(1 << 32), (1 << 62) - 1, (1 << 63) - 1, 1 << 63, (1 << 63) + 1))
+
+
+def value(rng):
+    """A corner, one of 32 bits with anything above it, or anything."""
+    sort = rng.random()
+    if sort < .35:
+        return rng.choice(CORNERS)
+    if sort < .5:
+        return rng.choice(CORNERS) & 0xFFFFFFFF | rng.getrandbits(32) << 32
+    return rng.getrandbits(64) >> rng.choice((0, 0, 1, 16, 32, 33, 48))
+
+
 def values(rng):
-    limits = (0, 1, 31, 32, 63, 64, (1 << 31) - 1, 1 << 31, (1 << 32) - 1, 1 << 32, (1 << 63) - 1, 1 << 63, M64)
-    return [0] + [rng.choice(limits) if rng.random() < .4 else rng.getrandbits(64) for _ in range(31)]
+    return [0] + [value(rng) for _ in range(31)]
 
 
 def check_qemu(program, words, number_of_runs, spoil):
     rng = words.rng
     processor, qemu = Processor(), Qemu(program)
-    steps = 0
+    steps = rest = 0
     try:
         for k in range(number_of_runs):
             run = [words.straight() for _ in range(rng.choice((1, 1, 2, 3, 8, 20, 64)))]
@@ -466,19 +532,16 @@ def check_qemu(program, words, number_of_runs, spoil):
             demand(not others, "registers after", code_of(run).hex(), others)
             demand(pc == at, "pc after", code_of(run).hex(), hex(pc), hex(at))
             steps += count
+            rest += sum(bool(muldiv.key(word)) for word in run)
     finally:
         qemu.close()
-    print(f"qemu: {number_of_runs} blocks, {steps} single steps, registers and pc the same")
+    print(f"qemu: {number_of_runs} blocks, {steps} single steps, {rest} of them words of the rest of M, registers and pc the same")
 
 
 # ---- code that changes
 
 ADDRESS, STORED, LEFT = 5, 6, 7  # registers: the code's address, the word that is stored, how many rounds are left
 KEPT_REGISTERS = (ADDRESS, STORED, LEFT)
-
-
-def destination(word):
-    return word >> 7 & 31
 
 
 def is_store(word):
@@ -531,7 +594,7 @@ class Replay:
     def translate(self, start, run):
         """The block of these words at the start."""
         halfwords = ",".join(f"{word & 0xFFFF:04x},{word >> 16:04x}" for word in run)
-        self.process.stdin.write(f"T {start:x} 64 0 0 2243 {halfwords}\n")
+        self.process.stdin.write(f"T {start:x} 64 0 0 4099 {halfwords}\n")
         self.process.stdin.flush()
         reply = self.process.stdout.readline().split()
         demand(reply[0] == "block" and len(reply) == 4, "reply", *reply)
@@ -586,6 +649,103 @@ def check_changed_code(program, words, number_of_programs, spoil):
     print(f"changed code: {number_of_programs} programs, {entries} entries of blocks, {steps} single steps, registers and pc the same")
 
 
+# ---- pairs of operands for the words of M
+
+# MUL and MULW, then the rest; their funct7 is 1.
+M = ((muldiv.OP, 0), (muldiv.OP_32, 0), *muldiv.BODIES)
+NAMES = ("MUL", "MULW", *(name for name, _ in muldiv.BODIES.values()))
+
+
+def m_word(row, rd, rs1, rs2):
+    opcode, funct3 = row
+    return 1 << 25 | rs2 << 20 | rs1 << 15 | funct3 << 12 | rd << 7 | opcode
+
+
+def lui_addi(rd, value):
+    """A number below 2^31 in two words."""
+    upper = value + 0x800 >> 12
+    return [upper << 12 | rd << 7 | 0x37, (value - (upper << 12) & 0xFFF) << 20 | rd << 15 | rd << 7 | 0x13]
+
+
+def addi(rd, rs1, i):
+    return (i & 0xFFF) << 20 | rs1 << 15 | rd << 7 | 0x13
+
+
+def store_double(rs2, offset, rs1):
+    return offset >> 5 << 25 | rs2 << 20 | rs1 << 15 | 3 << 12 | (offset & 31) << 7 | 0x23
+
+
+def bne_back(rs1, rs2, words):
+    offset = -4 * words & 0x1FFF
+    return (offset >> 12 << 31 | (offset >> 5 & 63) << 25 | rs2 << 20 | rs1 << 15 | 1 << 12 | (offset >> 1 & 15) << 8
+            | (offset >> 11 & 1) << 7 | 0x63)
+
+
+def program_of_pairs(pairs):
+    """A RISC-V program, as an ELF file: all words of M of each pair, written to standard output."""
+    base, code_size = 0x10000, 0x1000
+    at_pairs, ecall = base + code_size, 0x00000073
+    at_results = at_pairs + 16 * len(pairs)
+    length = 8 * len(M) * len(pairs)
+    # x5, x7: the pair and its results; x6: the pairs' end; x11, x12: the operands
+    code = lui_addi(5, at_pairs) + lui_addi(6, at_results) + lui_addi(7, at_results)
+    loop = [0x0002B583, 0x0082B603]  # LD x11, 0(x5); LD x12, 8(x5)
+    for k, row in enumerate(M):
+        loop += [m_word(row, 13, 11, 12), store_double(13, 8 * k, 7)]
+    loop += [addi(5, 5, 16), addi(7, 7, 8 * len(M))]
+    code += loop + [bne_back(5, 6, len(loop))]
+    # write(1, results, length) until nothing is left, then exit(0)
+    code += lui_addi(8, at_results) + lui_addi(9, length)
+    write = [addi(17, 0, 64), addi(10, 0, 1), addi(11, 8, 0), addi(12, 9, 0), ecall, 0x00A40433, 0x40A484B3]  # x8 += x10; x9 -= x10
+    code += write + [bne_back(9, 0, len(write)), addi(17, 0, 93), addi(10, 0, 0), ecall]
+    data = code_of(code).ljust(code_size, b"\0") + b"".join(struct.pack("<QQ", *pair) for pair in pairs)
+    header = struct.pack("<16sHHIQQQIHHHHHH", b"\x7fELF\x02\x01\x01", 2, 243, 1, base, 64, 0, 0, 64, 56, 1, 0, 0, 0)
+    segment = struct.pack("<IIQQQQQQ", 1, 7, 0x1000, base, base, len(data), len(data) + length, 0x1000)
+    return (header + segment).ljust(0x1000, b"\0") + data
+
+
+def results_by_qemu(program, pairs):
+    with tempfile.TemporaryDirectory() as folder:
+        name = os.path.join(folder, "pairs")
+        with open(name, "wb") as file:
+            file.write(program_of_pairs(pairs))
+        os.chmod(name, 0o700)
+        data = subprocess.run([program, name], stdout=subprocess.PIPE, check=True).stdout
+    demand(len(data) == 8 * len(M) * len(pairs), "qemu wrote", len(data), "bytes")
+    return list(struct.iter_unpack(f"<{len(M)}Q", data))
+
+
+def pairs_of_operands(rng, number_of_pairs):
+    corners = list(CORNERS)
+    corners += [corner & 0xFFFFFFFF | rng.getrandbits(32) << 32 for corner in CORNERS]
+    corners += [corner ^ M64 << 32 & M64 for corner in CORNERS]
+    pairs = [(a, b) for a in corners for b in corners]
+    return pairs + [(value(rng), value(rng)) for _ in range(number_of_pairs)]
+
+
+def check_pairs(program, rng, number_of_pairs, spoil):
+    pairs = pairs_of_operands(rng, number_of_pairs)
+    run = [m_word(row, 5 + k, 1, 2) for k, row in enumerate(M)]
+    if spoil:
+        run[M.index((muldiv.OP, 4))] ^= 1 << 12  # DIVU for DIV
+    processor = Processor()
+    block = translate(code_of(run))
+    processor.memory[:len(block)] = block
+    slots = (ctypes.c_uint64 * 32)()
+    at = ctypes.addressof(slots)
+    for (a, b), want in zip(pairs, results_by_qemu(program, pairs)):
+        slots[1], slots[2] = a, b
+        result = processor.enter(at, 1, 2, 3, 4, 5)
+        found = tuple(slots[5:5 + len(M)])
+        demand(result.count == len(M) and (slots[0], slots[1], slots[2]) == (0, a, b), "count or operands of", hex(a), hex(b))
+        if found != want:
+            others = [(name, hex(x), hex(y)) for name, x, y in zip(NAMES, found, want) if x != y]
+            demand(False, "operands", hex(a), hex(b), "block and qemu:", others)
+    divided = sum(b in (0, M64) or b & 0xFFFFFFFF in (0, 0xFFFFFFFF) for _, b in pairs)
+    print(f"pairs: {len(pairs)} pairs of operands, {divided} of them with a divisor of 0 or -1 at some width; {len(M)} words of M each, "
+          f"{len(M) * len(pairs)} results the same")
+
+
 def number_of_runs(text):
     number = int(text)
     if number < 0:
@@ -593,33 +753,38 @@ def number_of_runs(text):
     return number
 
 
+def skipped(name, why):
+    print(f"{name}: skipped, {why}")
+
+
 def parts(options):
     """Name and check of each part that can be run; what is skipped is said."""
     found = []
     if options.blocks == 0:
-        print("objdump: skipped, no run is asked for")
+        skipped("objdump", "no run is asked for")
     elif not shutil.which("objdump"):
-        print("objdump: skipped, it is not installed (Debian: binutils)")
+        skipped("objdump", "it is not installed (Debian: binutils)")
     else:
         found.append(("objdump", lambda: check_objdump(Words(random.Random(options.seed)), options.blocks, options.spoil)))
     qemu = os.environ.get("QEMU_RISCV64") or shutil.which("qemu-riscv64")
-    if options.runs == 0:
-        print("qemu: skipped, no run is asked for")
-    elif (platform.system(), platform.machine()) != ("Linux", "x86_64"):
-        print("qemu: skipped, blocks can be entered on x86-64 Linux only")
-    elif not qemu:
-        print("qemu: skipped, qemu-riscv64 is not installed (Debian: qemu-user)")
+    here = (platform.system(), platform.machine()) == ("Linux", "x86_64")
+    missing = None if qemu else "qemu-riscv64 is not installed (Debian: qemu-user)"
+    missing = missing if here else "blocks can be entered on x86-64 Linux only"
+    if options.runs == 0 or missing:
+        skipped("qemu", missing or "no run is asked for")
     else:
         found.append(("qemu", lambda: check_qemu(qemu, Words(random.Random(options.seed + 1)), options.runs, options.spoil)))
-    if options.programs == 0:
-        print("changed code: skipped, no program is asked for")
+    if options.programs == 0 or missing:
+        skipped("changed code", missing or "no program is asked for")
     elif not os.access(REPLAY, os.X_OK):
-        print("changed code: skipped, target/bin/replay is not there: `rt check replay` builds it")
-    elif (platform.system(), platform.machine()) != ("Linux", "x86_64") or not qemu:
-        print("changed code: skipped, as qemu is")
+        skipped("changed code", "target/bin/replay is not there: `rt check replay` builds it")
     else:
         words = Words(random.Random(options.seed + 2))
         found.append(("changed code", lambda: check_changed_code(qemu, words, options.programs, options.spoil)))
+    if options.pairs == 0 or missing:
+        skipped("pairs", missing or "none is asked for")
+    else:
+        found.append(("pairs", lambda: check_pairs(qemu, random.Random(options.seed + 3), options.pairs, options.spoil)))
     return found
 
 
@@ -629,6 +794,7 @@ def main():
     parser.add_argument("--blocks", type=number_of_runs, default=1000, help="runs for objdump")
     parser.add_argument("--runs", type=number_of_runs, default=1000, help="runs for qemu")
     parser.add_argument("--programs", type=number_of_runs, default=200, help="loops that change their code, for qemu")
+    parser.add_argument("--pairs", type=number_of_runs, default=100000, help="random pairs of operands for M, besides the corners")
     parser.add_argument("--spoil", action="store_true", help="change one thing in each part, which must be noticed")
     options = parser.parse_args()
     if not os.access(TRANSLATE, os.X_OK):

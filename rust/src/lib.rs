@@ -18,6 +18,9 @@
 //! Where fetching has effects of its own, as under page tables, [`Run::fetch`] fetches just what a translation needs. [`CodeStore`]
 //! keeps blocks one behind the other, and [`block_fn`] makes a function of one.
 //!
+//! Multiplication and division (M) are in line. A zero divisor and the signed overflow give the RISC-V manual's values, and never the
+//! host's fault.
+//!
 //! # Code that changes
 //!
 //! A block does what the guest's code says as long as the halfwords that it was made from, no more than [`Run::fetch`] fetches, are those
@@ -65,8 +68,9 @@ pub use placing::{place, CodeStore, PlaceRefusal, Placed};
 pub use run::{word_kind, Run, WordKind};
 pub use translation::{translate, Block, Refusal, Request};
 
-/// The greatest length of a block in bytes: sixty-four times SLLW, for one. An output of this length is never too short.
-pub const GREATEST_BLOCK: usize = 2243;
+/// The greatest length of a block in bytes: sixty-four times DIVW. An output of this length is never too short, and a shorter one always
+/// is, whatever the block.
+pub const GREATEST_BLOCK: usize = 4099;
 
 /// The least length of a block in bytes: a jump alone, for one.
 pub const LEAST_BLOCK: usize = 67;

@@ -23,11 +23,12 @@ pub enum WordKind {
 /// use emuko_x64_blocks::{word_kind, WordKind};
 ///
 /// assert_eq!(word_kind(0x0050_0093), WordKind::Straight); // ADDI x1, x0, 5
+/// assert_eq!(word_kind(0x0220_C1B3), WordKind::Straight); // DIV x3, x1, x2
 /// assert_eq!(word_kind(0x0000_000F), WordKind::Straight); // FENCE
 /// assert_eq!(word_kind(0xFE20_9CE3), WordKind::Ending); // BNE x1, x2, -8
 /// assert_eq!(word_kind(0x0000_100F), WordKind::Ending); // FENCE.I
 /// assert_eq!(word_kind(0x0000_B083), WordKind::MemoryHelper); // LD x1, 0(x1)
-/// assert_eq!(word_kind(0x0220_91B3), WordKind::NotTaken); // MULH x3, x1, x2
+/// assert_eq!(word_kind(0x0000_0073), WordKind::NotTaken); // ECALL
 /// ```
 #[must_use]
 #[inline]

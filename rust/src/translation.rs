@@ -96,7 +96,7 @@ pub enum Refusal {
     MissingHalfword(u8),
     /// 4: the first word, given here, is not taken: neither translated nor handed to a helper.
     NotTaken(u32),
-    /// 5: the output has fewer than [`GREATEST_BLOCK`] bytes.
+    /// 5: the output has fewer than [`GREATEST_BLOCK`] bytes, however short this block would be.
     OutputTooShort,
 }
 
@@ -106,10 +106,10 @@ impl Refusal {
     /// ```
     /// use emuko_x64_blocks::{translate, Request};
     ///
-    /// // MULH is not taken.
-    /// let refusal = translate(&Request::new(0x8000_0000, &[0x91B3, 0x0220]), &mut []).unwrap_err();
+    /// // ECALL is not taken.
+    /// let refusal = translate(&Request::new(0x8000_0000, &[0x0073, 0x0000]), &mut []).unwrap_err();
     /// assert_eq!(refusal.number(), 4);
-    /// assert_eq!(refusal.to_string(), "the first word, 0x022091b3, is not taken");
+    /// assert_eq!(refusal.to_string(), "the first word, 0x00000073, is not taken");
     /// ```
     #[must_use]
     pub fn number(&self) -> u8 {

@@ -1,6 +1,7 @@
-//! This crate and the original Rust side by side: time, stack, code size. `cargo bench --offline`; docs/PERFORMANCE.md says what is
-//! compared with what.
+//! This crate and the original Rust side by side: time, stack, code size; and blocks beside what rustc makes of the same operations.
+//! `cargo bench --offline`; docs/PERFORMANCE.md says what is compared with what.
 
+mod entering;
 mod linked;
 #[allow(dead_code)]
 #[path = "../../tests/suite/random.rs"]
@@ -17,6 +18,7 @@ mod words;
 fn main() {
     translating::rows();
     linked::rows();
+    entering::rows();
     stack::rows();
     size::rows();
 }

@@ -41,7 +41,7 @@ pub fn cases() -> Vec<Case> {
     let bne = 0xFE20_9CE3; // BNE x1, x2, -8
     let ld = 0x0000_B083; // LD x1, 0(x1)
     let fence_i = 0x0000_100F; // with nothing behind it, which the original would take into its block
-    let mulh = 0x0220_91B3; // MULH x3, x1, x2
+    let refused = 0x4020_C1B3; // funct7 0x20 on funct3 4 of OP
     let mut long = UNIT.repeat(4);
     long[63] = bne;
     let mut short = UNIT.to_vec();
@@ -62,15 +62,32 @@ pub fn cases() -> Vec<Case> {
             &[&UNIT[..15], &[fence_i]].concat(),
             16,
         ),
-        case("MULH first, refused", &[mulh], 0),
+        case("a refused word of OP first", &[refused], 0),
     ]
 }
 
-/// Different runs of so many words, each ended by a jump or branch. In turn they are more than a branch predictor learns.
+/// Sixty-four times a word that the original does not take, x3, x1 and x2 being its registers: the last makes the greatest block.
+pub fn rest_of_m() -> Vec<Case> {
+    let case = |name, word| Case {
+        name,
+        run: halves(&[word; 64]),
+        count: 64,
+    };
+    vec![
+        case("64 x DIV", 0x0220_C1B3),
+        case("64 x REMUW", 0x0220_F1BB),
+        case("64 x MULH", 0x0220_91B3),
+        case("64 x DIVW", 0x0220_C1BB),
+    ]
+}
+
+/// Different runs of so many words, each ended by a jump or branch. In turn they are more than a branch predictor learns. The original
+/// takes all of these words.
 pub fn varied(number: usize, words: usize, seed: u64) -> Vec<Vec<u16>> {
     let mut r = Random::new(seed);
     let mut run = || {
-        let mut run: Vec<u32> = (1..words).map(|_| words::straight(&mut r)).collect();
+        let straight = words::straight_in_the_original;
+        let mut run: Vec<u32> = (1..words).map(|_| straight(&mut r)).collect();
         run.push(words::jump(&mut r));
         halves(&run)
     };

@@ -1,6 +1,6 @@
 //! The bytes of stack that a translation uses.
 
-use crate::runs::{cases, Case, START};
+use crate::runs::{cases, rest_of_m, Case, START};
 use emuko_original::{Emuko, Original, CODE_SIZE};
 use emuko_x64_blocks::{place, translate, Request, GREATEST_BLOCK};
 use std::ffi::c_void;
@@ -74,26 +74,37 @@ fn depth(function: extern "C" fn(*mut c_void), task: &mut Task) -> usize {
     top - (range.start as usize + untouched)
 }
 
+fn task<'a>(case: &'a Case, original: &'a Original) -> Task<'a> {
+    Task {
+        case,
+        original,
+        out: vec![0; GREATEST_BLOCK],
+        bytes: Vec::with_capacity(4096),
+    }
+}
+
 pub fn rows() {
     let original = Original::new(CODE_SIZE);
     println!();
     println!("{:34}{:>12}{:>12}", "stack, bytes", "this", "original");
     for case in &cases() {
-        let mut task = Task {
-            case,
-            original: &original,
-            out: vec![0; GREATEST_BLOCK],
-            bytes: Vec::with_capacity(4096),
-        };
+        let mut task = task(case, &original);
         // The call's own eight bytes are in every measurement.
         assert_eq!(depth(nothing, &mut task), 8);
         let (new, old) = (depth(new, &mut task), depth(old, &mut task));
         println!("{:34}{new:12}{old:12}", case.name);
-        task.out = vec![0; 4096];
-        task.bytes = vec![0x5A; 2243];
-        if case.count == 0 {
-            let (new, old) = (depth(new_place, &mut task), depth(old_place, &mut task));
-            println!("{:34}{new:12}{old:12}", "placing 2243 bytes");
-        }
+    }
+    for case in &rest_of_m() {
+        let new = depth(new, &mut task(case, &original));
+        println!("{:34}{new:12}{:>12}", case.name, "-");
+    }
+    for length in [2243, 4099] {
+        let cases = cases();
+        let mut task = task(&cases[0], &original);
+        task.out = vec![0; 8192];
+        task.bytes = vec![0x5A; length];
+        let (new, old) = (depth(new_place, &mut task), depth(old_place, &mut task));
+        let name = format!("placing {length} bytes");
+        println!("{name:34}{new:12}{old:12}");
     }
 }

@@ -12,10 +12,15 @@ const ROUNDS: u32 = 20;
 const SPAN: Duration = Duration::from_millis(4);
 
 pub fn heading(title: &str) {
+    heading_beside(title, "original, ns");
+}
+
+/// The same where something else than the original stands beside this.
+pub fn heading_beside(title: &str, other: &str) {
     println!();
     println!(
-        "{title:34}{:>12}{:>14}{:>8}{:>18}",
-        "this, ns", "original, ns", "ratio", "over five runs"
+        "{title:34}{:>12}{other:>14}{:>8}{:>18}",
+        "this, ns", "ratio", "over five runs"
     );
 }
 
@@ -59,7 +64,7 @@ pub fn row(name: &str, parts: usize, mut new: impl FnMut(), mut old: impl FnMut(
     }
     let nanoseconds = 1e9 / parts as f64;
     println!(
-        "{name:34}{:12.1}{:14.1}{:8.2}{:>18}",
+        "{name:34}{:12.2}{:14.2}{:8.2}{:>18}",
         least_new * nanoseconds,
         least_old * nanoseconds,
         least_new / least_old,

@@ -1,7 +1,7 @@
 //! Translation and placing by themselves.
 
-use crate::runs::{cases, varied, Case, START};
-use crate::time::{heading, row};
+use crate::runs::{cases, rest_of_m, varied, Case, START};
+use crate::time::{heading, heading_beside, row};
 use emuko_original::{set_helper, Emuko, Original, CODE_SIZE};
 use emuko_x64_blocks::{place, translate, CodeStore, Request, GREATEST_BLOCK};
 use std::cell::RefCell;
@@ -38,6 +38,26 @@ fn repeated(case: &Case, original: &Original) {
         },
         || {
             let run = black_box(&case.run);
+            black_box(original.emit(START, 64, run, black_box(&mut bytes)));
+        },
+    );
+}
+
+/// Words that the original does not take, beside its longest block: 64 times SLLW.
+fn beside_sllw(case: &Case, sllw: &Case, original: &Original) {
+    let request = Request::new(START, &case.run);
+    let mut out = vec![0; GREATEST_BLOCK];
+    let mut bytes = Vec::with_capacity(4096);
+    let block = translate(&request, &mut out).unwrap();
+    assert_eq!(block.count(), case.count);
+    row(
+        case.name,
+        1,
+        || {
+            let _ = black_box(translate(black_box(&request), black_box(&mut out)));
+        },
+        || {
+            let run = black_box(&sllw.run);
             black_box(original.emit(START, 64, run, black_box(&mut bytes)));
         },
     );
@@ -174,11 +194,15 @@ pub fn rows() {
     }
     in_turn(16, &original);
     in_turn(4, &original);
+    heading_beside("translating the rest of M", "its SLLW, ns");
+    for case in &rest_of_m() {
+        beside_sllw(case, &cases()[0], &original);
+    }
     heading("placing");
-    for length in [67, 262, 1024, 2243] {
+    for length in [67, 262, 1024, 2243, 4099] {
         placing(length);
     }
-    for length in [67, 262, 1024, 2243] {
+    for length in [67, 262, 1024, 2243, 4099] {
         placing_in_a_row(length);
     }
     heading("translating and placing");

@@ -1,8 +1,10 @@
-//! Random requests: replies and every byte of the output against the original Rust, whose run is cut behind a FENCE.I (module `fence_i`).
+//! Random requests: replies and every byte of the output against the original Rust, whose run is cut behind a FENCE.I (module `fence_i`)
+//! and has stand-ins for the rest of M (module `rest_of_m`).
 
-use crate::fence_i::{cut, words_to_fence_i};
+use crate::fence_i::words_to_fence_i;
 use crate::random::Random;
 use crate::requests::{self, Lent, Wanted};
+use crate::rest_of_m::{first_of_the_rest, judged};
 use crate::words;
 use emuko_original::{Answer, Emuko, Original, CODE_SIZE};
 use emuko_x64_blocks::{translate, Refusal, Request, GREATEST_BLOCK};
@@ -30,18 +32,18 @@ impl Comparison {
         }
     }
 
-    /// Asks both and compares; gives the reply. The original is asked for the run up to a FENCE.I.
-    pub fn reply(&mut self, request: &Request, output: usize) -> Result<Size, Refusal> {
-        let helpers = [request.helpers.halfword, request.helpers.memory];
-        let answer = self.original.translate(
+    /// What the original says to a request, asked as above; its block's bytes are then in `self.bytes`.
+    fn expected(&mut self, request: &Request, output: usize) -> Result<Size, Refusal> {
+        let answer = judged(
+            &mut self.original,
             request.start,
             request.limit,
-            cut(request.halfwords),
-            helpers,
+            request.halfwords,
+            [request.helpers.halfword, request.helpers.memory],
             &mut self.bytes,
         );
-        let expected = match answer {
-            // Document 01 adds number 5 and tests it last.
+        match answer {
+            // Document 01 adds number 5 and tests it last. It goes by the greatest block of all, not by this one.
             Answer::Block(_) if output < GREATEST_BLOCK => Err(Refusal::OutputTooShort),
             Answer::Block(count) => Ok(Size {
                 length: self.bytes.len(),
@@ -51,7 +53,12 @@ impl Comparison {
             Answer::OddStart(start) => Err(Refusal::OddStart(start)),
             Answer::Missing(index) => Err(Refusal::MissingHalfword(index.try_into().unwrap())),
             Answer::NotTaken(word) => Err(Refusal::NotTaken(word)),
-        };
+        }
+    }
+
+    /// Asks both and compares; gives the reply.
+    pub fn reply(&mut self, request: &Request, output: usize) -> Result<Size, Refusal> {
+        let expected = self.expected(request, output);
         let reply = translate(request, self.lent.lend(output)).map(|block| Size {
             length: block.bytes().len(),
             count: block.count(),
@@ -68,7 +75,7 @@ impl Comparison {
         reply
     }
 
-    /// What becomes of a word by the original's own matches, in which FENCE.I is straight.
+    /// What becomes of a word by the original's own matches, in which FENCE.I is straight and the rest of M is not taken.
     pub fn kind(&mut self, word: u32) -> u32 {
         self.original.kind(word, &mut self.bytes)
     }
@@ -79,13 +86,18 @@ impl Comparison {
 }
 
 /// How often each reply was seen, so that a generator which loses a kind is noticed.
+#[derive(Debug)]
 struct Seen {
     counts: [u32; 65],
     greatest: u32,
+    /// Blocks of 2,243 bytes, the original's greatest.
+    original_greatest: u32,
     refusals: [u32; 6],
     missing: [u32; 2],
     /// Blocks that a FENCE.I has ended: with less behind it than a word, and with more.
     by_fence_i: [u32; 2],
+    /// Blocks that hold none of the rest of M, have one of it as their first word, and have one behind others.
+    rest_of_m: [u32; 3],
 }
 
 impl Seen {
@@ -93,9 +105,11 @@ impl Seen {
         Seen {
             counts: [0; 65],
             greatest: 0,
+            original_greatest: 0,
             refusals: [0; 6],
             missing: [0; 2],
             by_fence_i: [0; 2],
+            rest_of_m: [0; 3],
         }
     }
 
@@ -108,7 +122,14 @@ impl Seen {
                     let behind = halfwords.len() - 2 * count;
                     self.by_fence_i[(behind > 1) as usize] += 1;
                 }
+                let which = match first_of_the_rest(halfwords) {
+                    Some(0) => 1,
+                    Some(first) if first < count => 2,
+                    _ => 0,
+                };
+                self.rest_of_m[which] += 1;
                 self.greatest += (block.length == GREATEST_BLOCK) as u32;
+                self.original_greatest += (block.length == 2243) as u32;
             }
             Err(refusal) => {
                 self.refusals[refusal.number() as usize] += 1;
@@ -129,19 +150,13 @@ fn random_requests(seed: u64, number: u32) {
         let reply = comparison.wanted(&wanted);
         seen.add(wanted.request().halfwords, reply);
     }
-    assert!(seen.counts[1..].iter().all(|n| *n > 0), "{:?}", seen.counts);
-    assert!(seen.greatest > 100);
-    assert!(
-        seen.refusals[1..].iter().all(|n| *n > 1000),
-        "{:?}",
-        seen.refusals
-    );
-    assert!(seen.missing.iter().all(|n| *n > 100), "{:?}", seen.missing);
-    assert!(
-        seen.by_fence_i.iter().all(|n| *n > 20_000),
-        "{:?}",
-        seen.by_fence_i
-    );
+    println!("{seen:?}");
+    assert!(seen.counts[1..].iter().all(|n| *n > 0), "{seen:?}");
+    assert!(seen.greatest > 100 && seen.original_greatest > 100);
+    assert!(seen.refusals[1..].iter().all(|n| *n > 1000), "{seen:?}");
+    assert!(seen.missing.iter().all(|n| *n > 100), "{seen:?}");
+    assert!(seen.by_fence_i.iter().all(|n| *n > 20_000), "{seen:?}");
+    assert!(seen.rest_of_m.iter().all(|n| *n > 50_000), "{seen:?}");
 }
 
 #[test]
@@ -210,22 +225,26 @@ fn every_end_at_every_count() {
     assert_eq!(requests, 66 * 7 * 5);
 }
 
-/// Every length of the output below the greatest block is refused, and none above it, whatever the block's length.
+/// Every length of the output below the greatest block is refused, and none above it, whatever the block's length: ADDI alone, and the
+/// original's greatest block, which an output of 2,243 bytes would hold.
 #[test]
 fn every_output_length() {
     let mut comparison = Comparison::new(4);
-    let run = [0x0093, 0x0050];
-    let request = Request::new(0x8000_0000, &run);
-    for output in 0..GREATEST_BLOCK {
-        let reply = comparison.reply(&request, output);
-        assert_eq!(reply, Err(Refusal::OutputTooShort));
+    let mut lengths = 0;
+    for (word, words, length) in [(0x0050_0093, 1, 88), (0x0020_91BB, 64, 2243)] {
+        let run = words::halves(word).repeat(words);
+        let request = Request::new(0x8000_0000, &run);
+        for output in 0..GREATEST_BLOCK {
+            let reply = comparison.reply(&request, output);
+            assert_eq!(reply, Err(Refusal::OutputTooShort));
+            lengths += 1;
+        }
+        for output in GREATEST_BLOCK..GREATEST_BLOCK + 300 {
+            let reply = comparison.reply(&request, output);
+            let count = words as u32;
+            assert_eq!(reply, Ok(Size { length, count }));
+            lengths += 1;
+        }
     }
-    for output in GREATEST_BLOCK..GREATEST_BLOCK + 300 {
-        let reply = comparison.reply(&request, output);
-        let size = Size {
-            length: 88,
-            count: 1,
-        };
-        assert_eq!(reply, Ok(size));
-    }
+    assert_eq!(lengths, 2 * (4099 + 300));
 }

@@ -1,4 +1,4 @@
-//! Document 01's cases, one by one.
+//! Document 01's cases and those of requests, one by one.
 
 use crate::archive::{emuko_place, emuko_translate, emuko_word_kind, Reply};
 use crate::words::halves;
@@ -152,10 +152,61 @@ fn addi() {
     assert_eq!(with_ecall, Ok((bytes, 1)));
 }
 
+/// funct7 0x20 on funct3 4, which is no word of OP: its two loads stay in the block behind ADDI, and nothing of it where it is first.
 #[test]
-fn mulh() {
-    assert_eq!(size(&[0x0093, 0x0050, 0x91B3, 0x0220]), (102, 1));
-    assert_eq!(refusal(&[0x91B3, 0x0220]), Refusal::NotTaken(0x0220_91B3));
+fn a_word_of_op_that_is_not_taken() {
+    assert_eq!(size(&[0x0093, 0x0050, 0xC1B3, 0x4020]), (102, 1));
+    assert_eq!(refusal(&[0xC1B3, 0x4020]), Refusal::NotTaken(0x4020_C1B3));
+}
+
+/// Request Q-2: the rest of M is translated. Lengths are 67, 14 for two loads, the word's own host code, 7 for the store of its result.
+#[test]
+fn the_rest_of_m() {
+    let alone = |word: u32| size(&halves(word));
+    // MULH, MULHSU, MULHU x3, x1, x2
+    assert_eq!(alone(0x0220_91B3), (97, 1));
+    assert_eq!(alone(0x0220_A1B3), (105, 1));
+    assert_eq!(alone(0x0220_B1B3), (97, 1));
+    // DIV, DIVU, REM, REMU
+    assert_eq!(alone(0x0220_C1B3), (122, 1));
+    assert_eq!(alone(0x0220_D1B3), (108, 1));
+    assert_eq!(alone(0x0220_E1B3), (119, 1));
+    assert_eq!(alone(0x0220_F1B3), (107, 1));
+    // DIVW, DIVUW, REMW, REMUW
+    assert_eq!(alone(0x0220_C1BB), (130, 1));
+    assert_eq!(alone(0x0220_D1BB), (111, 1));
+    assert_eq!(alone(0x0220_E1BB), (127, 1));
+    assert_eq!(alone(0x0220_F1BB), (110, 1));
+    // MUL and MULW as they were.
+    assert_eq!(alone(0x0220_81B3), (92, 1));
+    assert_eq!(alone(0x0220_81BB), (95, 1));
+    // DIV x0, x1, x0 loads, computes and counts; only its store is left out.
+    assert_eq!(alone(0x0200_C033), (115, 1));
+    // Behind ADDI and before it.
+    assert_eq!(end(START, &[0x0050_0093, 0x0220_91B3]), (118, 2, START + 8));
+    assert_eq!(end(START, &[0x0220_91B3, 0x0050_0093]), (118, 2, START + 8));
+    // OP_32 has no MULH, MULHSU, MULHU.
+    for word in [0x0220_91BB, 0x0220_A1BB, 0x0220_B1BB] {
+        assert_eq!(refusal(&halves(word)), Refusal::NotTaken(word));
+    }
+}
+
+/// The whole block of DIV x3, x1, x2: loads, R10 divided by R11, store, end.
+#[test]
+fn the_bytes_of_div() {
+    let (bytes, _) = reply(START, 64, &halves(0x0220_C1B3)).unwrap();
+    let body = [
+        0x4C, 0x8B, 0x93, 0x08, 0x00, 0x00, 0x00, 0x4C, 0x8B, 0x9B, 0x10, 0x00, 0x00,
+        0x00, // loads
+        0x4C, 0x89, 0xD9, 0x48, 0x83, 0xC1, 0x01, // RCX = R11 + 1
+        0x4C, 0x89, 0xD0, 0x49, 0x0F, 0xAF, 0xC3, 0x48, 0x29, 0xC8, // RAX = R10 * R11 - RCX
+        0x48, 0x83, 0xF9, 0x02, 0x72, 0x08, // RCX below 2 jumps over the division
+        0x4C, 0x89, 0xD0, 0x48, 0x99, 0x49, 0xF7, 0xFB, // RAX = R10 / R11
+        0x49, 0x89, 0xC2, // R10 = RAX
+        0x4C, 0x89, 0x93, 0x18, 0x00, 0x00, 0x00, // store
+    ];
+    assert_eq!(bytes[32..32 + 55], body);
+    assert_eq!(bytes[32 + 55..][..10], rax(START + 4));
 }
 
 /// What words that are not taken leave: 17 bytes for BRANCH, 14 for OP and OP_32, 7 for OP_IMM and OP_IMM_32, else none.
@@ -166,8 +217,12 @@ fn left_by_words_not_taken() {
         size(&run).0 - 88
     };
     assert_eq!(behind_addi(0x0000_2063), 17);
-    assert_eq!(behind_addi(0x0220_91B3), 14);
+    // OP with funct7 0x20 and with 2; OP_32 with funct7 1 and funct3 1, 2, 3, which M does not have.
+    assert_eq!(behind_addi(0x4020_C1B3), 14);
+    assert_eq!(behind_addi(0x0420_81B3), 14);
     assert_eq!(behind_addi(0x0220_91BB), 14);
+    assert_eq!(behind_addi(0x0220_A1BB), 14);
+    assert_eq!(behind_addi(0x0220_B1BB), 14);
     assert_eq!(behind_addi(0x8000_9093), 7);
     assert_eq!(behind_addi(0x0200_909B), 7);
     for word in [
@@ -207,20 +262,52 @@ fn jalr_of_any_funct3() {
     }
 }
 
+/// DIVW x3, x1, x2 sixty-four times; sixty-four times SLLW is the original's greatest.
 #[test]
 fn the_greatest_block() {
-    assert_eq!(size(&[0x91BB, 0x0020].repeat(64)), (GREATEST_BLOCK, 64));
-    assert_eq!(GREATEST_BLOCK, 2243);
+    assert_eq!(size(&[0xC1BB, 0x0220].repeat(64)), (GREATEST_BLOCK, 64));
+    assert_eq!(size(&[0xC1BB, 0x0220].repeat(70)), (GREATEST_BLOCK, 64));
+    assert_eq!(GREATEST_BLOCK, 67 + 64 * 63);
+    assert_eq!(GREATEST_BLOCK, 4099);
+    assert_eq!(size(&[0x91BB, 0x0020].repeat(64)), (2243, 64));
+    // 63 times DIVW, then a branch, a load, FENCE.I: no longer than that.
+    let ends = [
+        (0xFE20_9CE3, 44 + 25),
+        (0x0000_B083, 41 + 7 + 15),
+        (0x0000_100F, 35),
+    ];
+    for (word, length) in ends {
+        let run = [&[0xC1BB, 0x0220].repeat(63)[..], &halves(word)].concat();
+        assert_eq!(size(&run), (32 + 63 * 63 + length, 64));
+    }
+}
+
+/// Number 5 goes by the greatest block of all: 2,243 and 4,098 bytes are too few for ADDI, for the greatest block of the original and for
+/// the greatest of all; 4,099 are enough. The output is as before where it is refused.
+#[test]
+fn short_outputs() {
+    let runs = [
+        ADDI.to_vec(),
+        [0x91BB, 0x0020].repeat(64),
+        [0xC1BB, 0x0220].repeat(64),
+    ];
+    let mut out = [0x5A; GREATEST_BLOCK];
+    for (run, length) in runs.iter().zip([88, 2243, 4099]) {
+        let request = Request::new(START, run);
+        for short in [0, 88, 2242, 2243, 2244, 4096, 4098] {
+            let reply = translate(&request, &mut out[..short]);
+            assert_eq!(reply, Err(Refusal::OutputTooShort));
+        }
+        assert_eq!(out, [0x5A; GREATEST_BLOCK]);
+        assert_eq!(translate(&request, &mut out).unwrap().bytes().len(), length);
+        out.fill(0x5A);
+    }
 }
 
 #[test]
-fn short_outputs() {
+fn the_output_behind_a_block() {
     let request = Request::new(START, &ADDI);
     let mut out = [0x5A; GREATEST_BLOCK];
-    let reply = translate(&request, &mut out[..GREATEST_BLOCK - 1]);
-    assert_eq!(reply, Err(Refusal::OutputTooShort));
-    assert_eq!(translate(&request, &mut []), Err(Refusal::OutputTooShort));
-    assert_eq!(out, [0x5A; GREATEST_BLOCK]);
     let block = translate(&request, &mut out).unwrap();
     assert_eq!((block.bytes().len(), block.count()), (88, 1));
     let bytes = block.bytes().to_vec();
@@ -307,7 +394,7 @@ fn numbers_and_texts() {
         "the start, 0x3, is odd",
         "the first instruction lacks halfword 1",
         "the first word, 0x00000073, is not taken",
-        "the output has fewer than 2243 bytes",
+        "the output has fewer than 4099 bytes",
     ];
     for (k, (refusal, text)) in refusals.iter().zip(texts).enumerate() {
         assert_eq!(refusal.number() as usize, k + 1);
@@ -334,8 +421,9 @@ fn values_that_a_reply_lacks() {
     assert_eq!(translated(START, 1, &[], 0), (3, 0, 0));
     assert_eq!(translated(START, 1, &ADDI[..1], 0), (3, 1, 0));
     assert_eq!(translated(START, 1, &[0x0073, 0x0000], 0), (4, 0x73, 0));
-    assert_eq!(translated(START, 1, &ADDI, 2242), (5, 0, 0));
-    assert_eq!(translated(START, 64, &ADDI, 2243), (0, 88, 1));
+    assert_eq!(translated(START, 1, &ADDI, 2243), (5, 0, 0));
+    assert_eq!(translated(START, 1, &ADDI, 4098), (5, 0, 0));
+    assert_eq!(translated(START, 64, &ADDI, 4099), (0, 88, 1));
     let (code, mut store) = ([7; 4], [0; 8]);
     let mut placed = |used: usize| {
         // SAFETY: As above.
@@ -352,7 +440,7 @@ fn values_that_a_reply_lacks() {
 #[test]
 fn kinds_of_words() {
     let kinds = [
-        (0x0220_91B3, WordKind::NotTaken),
+        (0x4020_C1B3, WordKind::NotTaken),
         (0x0050_0093, WordKind::Straight),
         (0x0000_006F, WordKind::Ending),
         (0x0000_B083, WordKind::MemoryHelper),
@@ -363,4 +451,6 @@ fn kinds_of_words() {
     }
     assert_eq!(word_kind(0x0000_000F), WordKind::Straight);
     assert_eq!(word_kind(0x0000_100F), WordKind::Ending);
+    assert_eq!(word_kind(0x0220_91B3), WordKind::Straight); // MULH
+    assert_eq!(word_kind(0x0220_91BB), WordKind::NotTaken);
 }

@@ -2,9 +2,11 @@
 //! that it left, and the run of the manual (module `manual`) says what has to come out.
 
 use crate::fence_i::is_fence_i;
+use crate::machine::{executable, helpers, value, After, Called, Entered, Machine};
 use crate::manual::{Run, Turn};
 use crate::random::Random;
 use crate::requests;
+use crate::rest_of_m::{of_m, M};
 use crate::words;
 use emuko_original::{Answer, Emuko, Original};
 use emuko_x64_blocks::{
@@ -13,405 +15,6 @@ use emuko_x64_blocks::{
 };
 use std::collections::HashMap;
 use std::ffi::c_void;
-use std::mem::offset_of;
-use std::sync::{Mutex, MutexGuard};
-
-/// What the trampoline and the helpers read and write. One static, reached relative to RIP, since no register is free at a block's entry
-/// and return.
-#[repr(C)]
-struct Exchange {
-    // Set before an entry.
-    code: u64,
-    stack: u64,
-    arguments: [u64; 6],
-    saved: [u64; 6],
-    scratch: [u64; 3],
-    flags: u64,
-    // Found at the block's return.
-    rax: u64,
-    rdx: u64,
-    saved_after: [u64; 6],
-    stack_after: u64,
-    // The caller's own stack pointer.
-    own: u64,
-    // What a helper finds: how often each was called, RDI, RSI, RDX, RCX, R8, RSP, RAX, the slots.
-    calls: [u64; 2],
-    found: [u64; 7],
-    slots_found: [u64; 32],
-    // What a helper does: slot k becomes (slot k & keep[k]) ^ put[k]; then it returns RAX and RDX.
-    slots: u64,
-    keep: [u64; 32],
-    put: [u64; 32],
-    returns: [u64; 2],
-}
-
-static mut EXCHANGE: Exchange = Exchange {
-    code: 0,
-    stack: 0,
-    arguments: [0; 6],
-    saved: [0; 6],
-    scratch: [0; 3],
-    flags: 0,
-    rax: 0,
-    rdx: 0,
-    saved_after: [0; 6],
-    stack_after: 0,
-    own: 0,
-    calls: [0; 2],
-    found: [0; 7],
-    slots_found: [0; 32],
-    slots: 0,
-    keep: [0; 32],
-    put: [0; 32],
-    returns: [0; 2],
-};
-
-/// Whoever holds it may use the exchange.
-static TURN: Mutex<()> = Mutex::new(());
-
-std::arch::global_asm!(
-    // Enters the block: its stack, its registers, a jump; the return address on that stack is `emuko_test_back`.
-    "emuko_test_enter:",
-    "push rbx",
-    "push rbp",
-    "push r12",
-    "push r13",
-    "push r14",
-    "push r15",
-    "mov [rip + {x} + {own}], rsp",
-    "push qword ptr [rip + {x} + {flags}]",
-    "popfq",
-    "mov rsp, [rip + {x} + {stack}]",
-    "mov rdi, [rip + {x} + {arguments}]",
-    "mov rsi, [rip + {x} + {arguments} + 8]",
-    "mov rdx, [rip + {x} + {arguments} + 16]",
-    "mov rcx, [rip + {x} + {arguments} + 24]",
-    "mov r8, [rip + {x} + {arguments} + 32]",
-    "mov r9, [rip + {x} + {arguments} + 40]",
-    "mov rbx, [rip + {x} + {saved}]",
-    "mov rbp, [rip + {x} + {saved} + 8]",
-    "mov r12, [rip + {x} + {saved} + 16]",
-    "mov r13, [rip + {x} + {saved} + 24]",
-    "mov r14, [rip + {x} + {saved} + 32]",
-    "mov r15, [rip + {x} + {saved} + 40]",
-    "mov rax, [rip + {x} + {scratch}]",
-    "mov r10, [rip + {x} + {scratch} + 8]",
-    "mov r11, [rip + {x} + {scratch} + 16]",
-    "jmp qword ptr [rip + {x} + {code}]",
-    // The block's return.
-    "emuko_test_back:",
-    "mov [rip + {x} + {rax}], rax",
-    "mov [rip + {x} + {rdx}], rdx",
-    "mov [rip + {x} + {saved_after}], rbx",
-    "mov [rip + {x} + {saved_after} + 8], rbp",
-    "mov [rip + {x} + {saved_after} + 16], r12",
-    "mov [rip + {x} + {saved_after} + 24], r13",
-    "mov [rip + {x} + {saved_after} + 32], r14",
-    "mov [rip + {x} + {saved_after} + 40], r15",
-    "mov [rip + {x} + {stack_after}], rsp",
-    "mov rsp, [rip + {x} + {own}]",
-    "pop r15",
-    "pop r14",
-    "pop r13",
-    "pop r12",
-    "pop rbp",
-    "pop rbx",
-    "ret",
-    // The helpers. They use no stack, so that what is written there is the block's.
-    "emuko_test_helper16:",
-    "inc qword ptr [rip + {x} + {calls}]",
-    "jmp 2f",
-    "emuko_test_helper_mem:",
-    "inc qword ptr [rip + {x} + {calls} + 8]",
-    "2:",
-    "mov [rip + {x} + {found}], rdi",
-    "mov [rip + {x} + {found} + 8], rsi",
-    "mov [rip + {x} + {found} + 16], rdx",
-    "mov [rip + {x} + {found} + 24], rcx",
-    "mov [rip + {x} + {found} + 32], r8",
-    "mov [rip + {x} + {found} + 40], rsp",
-    "mov [rip + {x} + {found} + 48], rax",
-    "mov rsi, [rip + {x} + {slots}]",
-    "lea rdi, [rip + {x} + {slots_found}]",
-    "lea r8, [rip + {x} + {keep}]",
-    "lea r9, [rip + {x} + {put}]",
-    "xor ecx, ecx",
-    "3:",
-    "mov r10, [rsi + rcx*8]",
-    "mov [rdi + rcx*8], r10",
-    "and r10, [r8 + rcx*8]",
-    "xor r10, [r9 + rcx*8]",
-    "mov [rsi + rcx*8], r10",
-    "inc ecx",
-    "cmp ecx, 32",
-    "jb 3b",
-    // All that a function may change is changed.
-    "mov rsi, -1",
-    "mov rdi, -2",
-    "mov rcx, -3",
-    "mov r8, -4",
-    "mov r9, -5",
-    "mov r10, -6",
-    "mov r11, -7",
-    "mov rax, [rip + {x} + {returns}]",
-    "mov rdx, [rip + {x} + {returns} + 8]",
-    "ret",
-    x = sym EXCHANGE,
-    code = const offset_of!(Exchange, code),
-    stack = const offset_of!(Exchange, stack),
-    arguments = const offset_of!(Exchange, arguments),
-    saved = const offset_of!(Exchange, saved),
-    scratch = const offset_of!(Exchange, scratch),
-    flags = const offset_of!(Exchange, flags),
-    rax = const offset_of!(Exchange, rax),
-    rdx = const offset_of!(Exchange, rdx),
-    saved_after = const offset_of!(Exchange, saved_after),
-    stack_after = const offset_of!(Exchange, stack_after),
-    own = const offset_of!(Exchange, own),
-    calls = const offset_of!(Exchange, calls),
-    found = const offset_of!(Exchange, found),
-    slots_found = const offset_of!(Exchange, slots_found),
-    slots = const offset_of!(Exchange, slots),
-    keep = const offset_of!(Exchange, keep),
-    put = const offset_of!(Exchange, put),
-    returns = const offset_of!(Exchange, returns),
-);
-
-extern "C" {
-    fn emuko_test_enter();
-    fn emuko_test_back();
-    fn emuko_test_helper16();
-    fn emuko_test_helper_mem();
-    fn mmap(
-        addr: *mut c_void,
-        length: usize,
-        protection: i32,
-        flags: i32,
-        file: i32,
-        offset: i64,
-    ) -> *mut c_void;
-}
-
-fn address(function: unsafe extern "C" fn()) -> u64 {
-    function as usize as u64
-}
-
-fn helpers() -> Helpers {
-    Helpers {
-        halfword: address(emuko_test_helper16),
-        memory: address(emuko_test_helper_mem),
-    }
-}
-
-/// Memory that can be read, written and executed.
-fn executable(length: usize) -> &'static mut [u8] {
-    const READ_WRITE_EXECUTE: i32 = 7;
-    const PRIVATE_ANONYMOUS: i32 = 0x22;
-    // SAFETY: A new mapping that nothing else knows of, and that is never unmapped.
-    unsafe {
-        let memory = mmap(
-            std::ptr::null_mut(),
-            length,
-            READ_WRITE_EXECUTE,
-            PRIVATE_ANONYMOUS,
-            -1,
-            0,
-        );
-        assert_ne!(memory as isize, -1, "no executable memory");
-        std::slice::from_raw_parts_mut(memory.cast(), length)
-    }
-}
-
-/// Words on each side of the 32 slots.
-const BESIDE: usize = 8;
-/// Words of the stack, and where the entry stack pointer stands among them.
-const STACK: usize = 128;
-const ENTRY: usize = 65;
-
-/// The words of the stack. Aligned, so that an odd index is 8 more than a multiple of 16.
-#[repr(C, align(16))]
-struct Stack([u64; STACK]);
-
-/// What an entry changes and finds.
-struct Entered {
-    rax: u64,
-    rdx: u64,
-    helper: Option<Called>,
-}
-
-/// What a helper found when it was called.
-struct Called {
-    compressed: bool,
-    slots: [u64; 32],
-    instruction: u64,
-    pc: u64,
-}
-
-/// The host's side of a list of turns.
-struct Machine {
-    store: CodeStore<&'static mut [u8]>,
-    out: Vec<u8>,
-    registers: Box<[u64; 32 + 2 * BESIDE]>,
-    stack: Box<Stack>,
-    r: Random,
-    _turn: MutexGuard<'static, ()>,
-}
-
-impl Machine {
-    fn new(seed: u64) -> Self {
-        Machine {
-            // Another test that failed has left nothing behind that matters.
-            _turn: TURN.lock().unwrap_or_else(|poisoned| poisoned.into_inner()),
-            store: CodeStore::new(executable(1 << 16)),
-            out: vec![0; GREATEST_BLOCK],
-            registers: Box::new([0; 32 + 2 * BESIDE]),
-            stack: Box::new(Stack([0; STACK])),
-            r: Random::new(seed),
-        }
-    }
-
-    fn slots(&mut self) -> &mut [u64] {
-        &mut self.registers[BESIDE..BESIDE + 32]
-    }
-
-    /// Places the block and enters it, everything around it random. What every entry has to keep is compared here. A helper, if one is
-    /// called, does what `after` says: what to keep of each slot and what to put there, RAX and RDX.
-    fn enter(&mut self, length: usize, after: &([u64; 32], [u64; 32], [u64; 2])) -> Entered {
-        let code = &self.out[..length];
-        let placed = match self.store.place(code) {
-            Ok(placed) => placed,
-            Err(_) => {
-                self.store.clear();
-                self.store.place(code).unwrap()
-            }
-        };
-        let block = placed.offset..placed.mark;
-        assert_eq!(block.len(), length);
-
-        let r = &mut self.r;
-        for k in (0..BESIDE).chain(BESIDE + 32..32 + 2 * BESIDE) {
-            self.registers[k] = r.u64();
-        }
-        for word in &mut self.stack.0 {
-            *word = r.u64();
-        }
-        self.stack.0[ENTRY] = address(emuko_test_back);
-        let beside = *self.registers;
-        let stack = self.stack.0;
-        let entry = &raw mut self.stack.0[ENTRY] as u64;
-        assert_eq!(entry % 16, 8);
-
-        let mut arguments = [(); 6].map(|_| r.u64());
-        let slots = &raw mut self.registers[BESIDE] as u64;
-        arguments[0] = slots;
-        let saved = [(); 6].map(|_| r.u64());
-        // Carry, parity, adjust, zero, sign and overflow; bit 1 is always set.
-        let flags = r.u64() & 0x8D5 | 2;
-        let scratch = [(); 3].map(|_| r.u64());
-
-        // SAFETY: This thread holds the lock. The block was translated from random words by the code under test: it is to use the slots,
-        // 64 bytes below the entry stack pointer and the helpers above, all of which exist. That it does is what is tested.
-        let x = unsafe {
-            let x = &raw mut EXCHANGE;
-            (*x).code = self.store.bytes().as_ptr() as u64 + placed.offset as u64;
-            (*x).stack = entry;
-            (*x).arguments = arguments;
-            (*x).saved = saved;
-            (*x).scratch = scratch;
-            (*x).flags = flags;
-            (*x).calls = [0; 2];
-            (*x).slots = slots;
-            ((*x).keep, (*x).put, (*x).returns) = *after;
-            emuko_test_enter();
-            x.read()
-        };
-
-        assert_eq!(x.saved_after, saved, "callee-saved registers");
-        assert_eq!(x.stack_after, entry + 8, "stack pointer");
-        assert!(
-            self.store.bytes()[block] == self.out[..length],
-            "the block was written"
-        );
-        for k in (0..BESIDE).chain(BESIDE + 32..32 + 2 * BESIDE) {
-            assert_eq!(self.registers[k], beside[k], "a word beside the slots");
-        }
-        assert_eq!(self.registers[BESIDE], 0, "slot x0");
-        let called = x.calls != [0; 2];
-        for (k, (after, before)) in self.stack.0.iter().zip(stack).enumerate() {
-            // The 48 bytes of the frame's pushes, and the 8 of the call's return address; the 8 between them are not written.
-            let own = (ENTRY - 6..ENTRY).contains(&k) || (called && k == ENTRY - 8);
-            assert!(own || *after == before, "stack, word {k}");
-        }
-        let helper = called.then(|| {
-            assert_eq!(x.calls[0] + x.calls[1], 1, "one call");
-            let compressed = x.calls[0] == 1;
-            let [rdi, rsi, rdx, instruction, pc, rsp, target] = x.found;
-            assert_eq!([rdi, rsi, rdx], arguments[1..4], "the helper's arguments");
-            // Before the call has pushed its return address, a multiple of 16.
-            assert_eq!(rsp, entry - 64, "stack pointer at the helper's entry");
-            assert_eq!((rsp + 8) % 16, 0);
-            let own = helpers();
-            let expected = if compressed { own.halfword } else { own.memory };
-            assert_eq!(target, expected, "the call goes through RAX");
-            Called {
-                compressed,
-                slots: x.slots_found,
-                instruction,
-                pc,
-            }
-        });
-        Entered {
-            rax: x.rax,
-            rdx: x.rdx,
-            helper,
-        }
-    }
-
-    /// What a helper is to do: some slots change, x0 never; RAX mostly an even pc.
-    fn after(&mut self) -> ([u64; 32], [u64; 32], [u64; 2]) {
-        let r = &mut self.r;
-        let (mut keep, mut put) = ([u64::MAX; 32], [0; 32]);
-        for k in 1..32 {
-            if r.percent(30) {
-                (keep[k], put[k]) = (0, value(r));
-            }
-        }
-        let pc = match r.below(40) {
-            0 => r.u64() | 1,
-            1 => 0u64.wrapping_sub(2 * r.below(20)),
-            _ => r.u64() & !1,
-        };
-        let any = r.u64();
-        let count = r.one_of(&[0, 1, 1 | 1 << 63, u64::MAX, any]);
-        (keep, put, [pc, count])
-    }
-}
-
-/// A register's value: often one at a limit, or of 32 bits.
-fn value(r: &mut Random) -> u64 {
-    const LIMITS: [u64; 14] = [
-        0,
-        1,
-        31,
-        32,
-        63,
-        64,
-        (1 << 31) - 1,
-        1 << 31,
-        (1 << 32) - 1,
-        1 << 32,
-        (1 << 63) - 1,
-        1 << 63,
-        u64::MAX - 1,
-        u64::MAX,
-    ];
-    match r.below(4) {
-        0 => r.one_of(&LIMITS),
-        1 => r.u32() as i32 as u64,
-        2 => r.below(4),
-        _ => r.u64(),
-    }
-}
 
 /// How often each thing was seen.
 #[derive(Debug, Default)]
@@ -427,11 +30,157 @@ struct Seen {
     branches: [[u32; 2]; 8],
     /// Blocks that a FENCE.I ended with a whole word behind it.
     by_fence_i: u32,
+    /// Words of M in the order of [`M`]: with operands as usual, with a second one of 0, and with those whose signed quotient overflows.
+    of_m: [[u64; 3]; 13],
+}
+
+impl Seen {
+    /// Adds what a plain block of so many words has, which started with these registers.
+    fn plain(&mut self, mut before: Run, halfwords: &[u16], added: u64, pc: u64) {
+        self.instructions += added;
+        let last = word_at(halfwords, added as usize - 1);
+        if last & 0x7F == 0x63 {
+            let next = before.pc.wrapping_add(4 * added);
+            self.branches[(last >> 12 & 7) as usize][(pc != next) as usize] += 1;
+        }
+        if is_fence_i(last) && halfwords.len() as u64 >= 2 * added + 2 {
+            self.by_fence_i += 1;
+        }
+        for k in 0..added as usize {
+            let word = word_at(halfwords, k);
+            if let Some(which) = of_m(word) {
+                let [a, b] = [word >> 15, word >> 20].map(|field| before.x[field as usize & 31]);
+                self.of_m[which][exception(word, a, b)] += 1;
+            }
+            before.turn(1, &words::halves(word), GREATEST_BLOCK);
+        }
+    }
+}
+
+/// 1 for a second operand of 0, 2 for the most negative number and -1, 0 for all others, by the word's width.
+fn exception(word: u32, a: u64, b: u64) -> usize {
+    let (a, b, most_negative) = match word & 0x7F {
+        0x33 => (a as i64, b as i64, i64::MIN),
+        _ => (i64::from(a as i32), i64::from(b as i32), -(1 << 31)),
+    };
+    match b {
+        0 => 1,
+        -1 if a == most_negative => 2,
+        _ => 0,
+    }
 }
 
 /// Word k of a run.
 fn word_at(halfwords: &[u16], k: usize) -> u32 {
     u32::from(halfwords[2 * k + 1]) << 16 | u32::from(halfwords[2 * k])
+}
+
+/// A list of turns on both sides: the manual's run, and slots, pc and the sum of RDX over the blocks entered since the last helper block.
+struct List<'a> {
+    machine: &'a mut Machine,
+    run: Run,
+    pc: u64,
+    sum: u64,
+}
+
+impl<'a> List<'a> {
+    fn new(machine: &'a mut Machine, r: &mut Random) -> Self {
+        let mut x = [0; 32];
+        for register in &mut x[1..] {
+            *register = value(r);
+        }
+        let [dividend, divisor] = requests::OVERFLOW;
+        // For the W forms, with anything in the upper halves.
+        let above = r.u64() << 32;
+        x[dividend] = r.one_of(&[1 << 63, 1 << 31 | above]);
+        x[divisor] = r.one_of(&[u64::MAX, 0xFFFF_FFFF | above]);
+        machine.slots().copy_from_slice(&x);
+        let pc = requests::start(r) & !1;
+        let run = Run { x, pc, count: 0 };
+        List {
+            machine,
+            run,
+            pc,
+            sum: 0,
+        }
+    }
+
+    /// One turn: refused on both sides, or a block that is entered, with what the manual says.
+    fn turn(&mut self, r: &mut Random, seen: &mut Seen) {
+        seen.turns += 1;
+        let limit = requests::limit(r);
+        let halfwords = requests::run(r);
+        let output = if r.percent(2) {
+            r.below(GREATEST_BLOCK as u64) as usize
+        } else {
+            GREATEST_BLOCK
+        };
+        let before = self.run.clone();
+        let turn = self.run.turn(limit, &halfwords, output);
+        let request = Request::new(self.pc, &halfwords);
+        let request = request.limit(limit).helpers(helpers());
+        let reply = translate(&request, &mut self.machine.out[..output]);
+        assert_eq!(reply.is_err(), turn == Turn::Refused, "{request:x?}");
+        let Ok(block) = reply else {
+            seen.refused += 1;
+            return;
+        };
+        let (length, count) = (block.bytes().len(), u64::from(block.count()));
+        let after = self.machine.after();
+        let entered = self.machine.enter(length, &after);
+        seen.entries += 1;
+        self.pc = entered.rax;
+        match (turn, &entered.helper) {
+            (Turn::Plain { added }, None) => {
+                assert_eq!((entered.rdx, count), (added, added), "{request:x?}");
+                self.sum += entered.rdx;
+                seen.plain(before, &halfwords, added, self.run.pc);
+            }
+            (Turn::Helper { .. }, Some(called)) => {
+                let added = self.by_helper(turn, called, &entered, &after, seen);
+                assert_eq!(count, added + 1, "{request:x?}");
+            }
+            (turn, _) => panic!("{turn:?}, but the block did otherwise: {request:x?}"),
+        }
+        assert_eq!(self.machine.slots(), self.run.x, "registers: {request:x?}");
+        assert_eq!(self.pc, self.run.pc, "pc: {request:x?}");
+        assert_eq!(self.sum, self.run.count, "count: {request:x?}");
+    }
+
+    /// A block that called its helper; how many words came before that one.
+    fn by_helper(
+        &mut self,
+        turn: Turn,
+        called: &Called,
+        entered: &Entered,
+        after: &After,
+        seen: &mut Seen,
+    ) -> u64 {
+        let Turn::Helper {
+            added,
+            instruction,
+            compressed,
+        } = turn
+        else {
+            unreachable!()
+        };
+        assert_eq!(called.slots, self.run.x, "slots at the call");
+        assert_eq!(called.compressed, compressed);
+        assert_eq!(called.instruction, instruction as u64);
+        assert_eq!(called.pc, self.run.pc);
+        let (keep, put, [rax, rdx]) = *after;
+        assert_eq!(entered.rax, rax, "RAX is the helper's");
+        assert_eq!(entered.rdx, rdx.wrapping_add(added));
+        let left = std::array::from_fn(|k| (self.run.x[k] & keep[k]) ^ put[k]);
+        self.run.resume(left, rax);
+        self.sum = 0;
+        seen.instructions += added;
+        match compressed {
+            true => seen.halfword_helpers += 1,
+            false => seen.memory_helpers += 1,
+        }
+        added
+    }
 }
 
 fn lists(seed: u64, number: u32) -> Seen {
@@ -440,85 +189,9 @@ fn lists(seed: u64, number: u32) -> Seen {
     let mut seen = Seen::default();
     for _ in 0..number {
         seen.lists += 1;
-        let mut x = [0; 32];
-        for register in &mut x[1..] {
-            *register = value(&mut r);
-        }
-        machine.slots().copy_from_slice(&x);
-        let mut pc = requests::start(&mut r) & !1;
-        // The sum of RDX over the blocks entered since the last helper block.
-        let mut sum = 0u64;
-        let mut run = Run { x, pc, count: 0 };
+        let mut list = List::new(&mut machine, &mut r);
         for _ in 0..1 + r.below(12) {
-            seen.turns += 1;
-            let limit = requests::limit(&mut r);
-            let halfwords = requests::run(&mut r);
-            let output = if r.percent(2) {
-                r.below(2243) as usize
-            } else {
-                GREATEST_BLOCK
-            };
-            let before = run.pc;
-            let turn = run.turn(limit, &halfwords, output);
-            let request = Request::new(pc, &halfwords).limit(limit).helpers(helpers());
-            let reply = translate(&request, &mut machine.out[..output]);
-            assert_eq!(reply.is_err(), turn == Turn::Refused, "{request:x?}");
-            let Ok(block) = reply else {
-                seen.refused += 1;
-                continue;
-            };
-            let (length, count) = (block.bytes().len(), u64::from(block.count()));
-            let after = machine.after();
-            let entered = machine.enter(length, &after);
-            seen.entries += 1;
-            pc = entered.rax;
-            match (turn, entered.helper) {
-                (Turn::Plain { added }, None) => {
-                    assert_eq!(entered.rdx, added, "{request:x?}");
-                    assert_eq!(count, added);
-                    sum += entered.rdx;
-                    seen.instructions += added;
-                    let at = 2 * (added as usize - 1);
-                    if halfwords[at] & 0x7F == 0x63 {
-                        let next = before.wrapping_add(4 * added);
-                        let funct3 = (halfwords[at] >> 12) as usize & 7;
-                        seen.branches[funct3][(run.pc != next) as usize] += 1;
-                    }
-                    let last = word_at(&halfwords, added as usize - 1);
-                    if is_fence_i(last) && halfwords.len() >= at + 4 {
-                        seen.by_fence_i += 1;
-                    }
-                }
-                (
-                    Turn::Helper {
-                        added,
-                        instruction,
-                        compressed,
-                    },
-                    Some(called),
-                ) => {
-                    assert_eq!(called.slots, run.x, "slots at the call: {request:x?}");
-                    assert_eq!(called.compressed, compressed);
-                    assert_eq!(called.instruction, instruction as u64);
-                    assert_eq!(called.pc, run.pc);
-                    let (keep, put, [rax, rdx]) = after;
-                    assert_eq!(entered.rax, rax, "RAX is the helper's");
-                    assert_eq!(entered.rdx, rdx.wrapping_add(added));
-                    assert_eq!(count, added + 1);
-                    let left = std::array::from_fn(|k| (run.x[k] & keep[k]) ^ put[k]);
-                    run.resume(left, rax);
-                    sum = 0;
-                    seen.instructions += added;
-                    match compressed {
-                        true => seen.halfword_helpers += 1,
-                        false => seen.memory_helpers += 1,
-                    }
-                }
-                (turn, _) => panic!("{turn:?}, but the block did otherwise: {request:x?}"),
-            }
-            assert_eq!(machine.slots(), run.x, "registers: {request:x?}");
-            assert_eq!(pc, run.pc, "pc: {request:x?}");
-            assert_eq!(sum, run.count, "count: {request:x?}");
+            list.turn(&mut r, &mut seen);
         }
     }
     seen
@@ -537,6 +210,9 @@ fn lists_of_turns() {
     for funct3 in [0, 1, 4, 5, 6, 7] {
         let [not, taken] = seen.branches[funct3];
         assert!(not > 100 && taken > 100, "{seen:?}");
+    }
+    for (name, of_word) in M.iter().zip(seen.of_m) {
+        assert!(of_word.iter().all(|n| *n > 100), "{name:?}: {of_word:?}");
     }
 }
 
@@ -574,13 +250,13 @@ fn a_loop() {
     assert_eq!((count, entries), (2 + 3 * 100, 100));
 }
 
-/// Straight words with FENCE.I among them, and mostly a jump at the end.
+/// Straight words that the original takes, with FENCE.I among them, and mostly a jump at the end.
 fn run_with_fences(r: &mut Random) -> Vec<u16> {
     let mut run = Vec::new();
     for _ in 0..1 + r.below(40) {
         let word = match r.below(8) {
             0 => words::fence_i(r),
-            _ => words::straight(r),
+            _ => words::straight_in_the_original(r),
         };
         run.extend(words::halves(word));
     }
@@ -627,6 +303,7 @@ fn where_the_original_ends() {
         assert_eq!((pc, sum), (theirs.rax, theirs.rdx), "{run:x?}");
         assert_eq!(machine.slots(), expected, "{run:x?}");
     }
+    println!("{entries} entries");
     assert!(entries > 10_000, "{entries}");
 }
 
@@ -848,10 +525,6 @@ fn a_block_as_a_function() {
         let other = |number: usize| number as *mut c_void;
         enter(slots, slots.cast(), other(2), other(3), other(4), other(5))
     };
-    let expected = BlockResult {
-        next_pc: 0x8000_0008,
-        executed: 2,
-    };
-    assert_eq!(result, expected);
+    assert_eq!((result.next_pc, result.executed), (0x8000_0008, 2));
     assert_eq!(regs[5], 7 + 0x0000_B083 + 0x8000_0004);
 }

@@ -1,9 +1,11 @@
 //! The first word's kind: taken, not taken or by a helper, and the block's bytes, against the original Rust. Of the 2^32 words all
 //! values of opcode, funct3 and funct7 are tried with each register field at its limits, and every compressed halfword.
+//! Of another kind than in the original are FENCE.I (request Q-1) and the rest of M.
 
 use crate::against_original::{Comparison, Size};
 use crate::fence_i::is_fence_i;
 use crate::random::Random;
+use crate::rest_of_m::rest_of_m;
 use crate::words;
 use emuko_x64_blocks::{word_kind, Helpers, Refusal, Request, WordKind, GREATEST_BLOCK};
 
@@ -13,14 +15,17 @@ const HELPERS: Helpers = Helpers {
     memory: 0x99AA_BBCC_DDEE_FF00,
 };
 
-/// The word's kind, as the original's matches have it, but for FENCE.I, which is straight there and ends its block here; the translation
-/// of the word alone tells whether it is taken.
+/// The word's kind, as the original's matches have it, but for FENCE.I, which is straight there and ends its block here, and for the rest
+/// of M, which is not taken there and straight here; the translation of the word alone tells whether it is taken.
 fn kind(comparison: &mut Comparison, start: u64, word: u32) -> WordKind {
     let kind = word_kind(word);
     let original = comparison.kind(word);
     if is_fence_i(word) {
         assert_eq!(original, WordKind::Straight as u32, "{word:08x}");
         assert_eq!(kind, WordKind::Ending, "{word:08x}");
+    } else if rest_of_m(word).is_some() {
+        assert_eq!(original, WordKind::NotTaken as u32, "{word:08x}");
+        assert_eq!(kind, WordKind::Straight, "{word:08x}");
     } else {
         assert_eq!(kind as u32, original, "{word:08x}");
     }
@@ -82,7 +87,7 @@ fn in_two<const N: usize>(
     std::array::from_fn(|k| first[k] + second[k])
 }
 
-/// What document 01 makes of these words, counted by hand from its list.
+/// What document 01 and the requests make of these words, counted by hand from their lists.
 #[test]
 fn words_by_field() {
     let count = in_two(
@@ -90,8 +95,9 @@ fn words_by_field() {
         || by_field(opcodes().skip(16), 21),
     );
     // Pairs of funct3 and funct7, out of 1,024 for each opcode. Straight: LUI and AUIPC all; 1 funct3 of 8 is FENCE, 6 of OP_IMM,
-    // 1 of OP_IMM_32; the shifts of OP_IMM, whose six upper bits leave two funct7 each; 3 exact ones of OP_IMM_32; OP 11; OP_32 6.
-    let straight = 2 * 1024 + (1 + 6 + 1) * 128 + 3 * 2 + 3 + 11 + 6;
+    // 1 of OP_IMM_32; the shifts of OP_IMM, whose six upper bits leave two funct7 each; 3 exact ones of OP_IMM_32; OP has ten base
+    // words and all eight of M, OP_32 five and five.
+    let straight = 2 * 1024 + (1 + 6 + 1) * 128 + 3 * 2 + 3 + (10 + 8) + (5 + 5);
     // JAL and JALR all, branches 6 funct3 of 8, FENCE.I 1; loads 7, stores 4.
     let ending = 2 * 1024 + (6 + 1) * 128;
     let memory = (7 + 4) * 128;
@@ -115,7 +121,7 @@ fn every_word() {
     let count = in_two(|| part(0, 25), move || part(1 << 29, 26));
     // For each opcode there are 2^25 words, 2^22 for one funct3 and 2^15 for a funct7 besides; the shifts that have six upper bits
     // fixed are 2^16. The numbers are those of `words_by_field`.
-    let straight = (2 << 25) + ((1 + 6 + 1) << 22) + (3 << 16) + ((3 + 11 + 6) << 15);
+    let straight = (2 << 25) + ((1 + 6 + 1) << 22) + (3 << 16) + ((3 + 18 + 10) << 15);
     let ending = (2 << 25) + ((6 + 1) << 22);
     let memory = (7 + 4) << 22;
     assert_eq!(count[1..], [straight, ending, memory]);
@@ -173,7 +179,7 @@ fn random_words() {
     assert!((100_000..400_000).contains(&count), "{count}");
 }
 
-/// Words of each sort of document 01's list.
+/// Words of each sort of the lists.
 #[test]
 fn sorts_of_words() {
     let mut r = Random::new(24);
@@ -184,6 +190,7 @@ fn sorts_of_words() {
             assert_eq!(kind(&mut comparison, start, word), expected, "{word:08x}");
         };
         of_kind(words::straight(&mut r), WordKind::Straight);
+        of_kind(words::of_m(&mut r), WordKind::Straight);
         of_kind(words::ending(&mut r), WordKind::Ending);
         of_kind(words::fence_i(&mut r), WordKind::Ending);
         of_kind(words::memory(&mut r), WordKind::MemoryHelper);

@@ -1,11 +1,13 @@
 //! emuko with `compile_native_block` over this crate, against the original emulator: replies, and everything else that can be seen
 //! behind a call. FENCE.I ends its block in the linked one alone, so the original is given the run cut behind it or, where it fetches from
-//! memory, a limit by which it ends there too (module `fence_i`): what it then does is all compared. Left out is what the original does
-//! behind a FENCE.I in the same block, which the test `behind_fence_i` shows.
+//! memory, a limit by which it ends there too (module `fence_i`). The rest of M is taken by the linked one alone, so the original is given
+//! stand-ins, and their bodies are put into its block (module `rest_of_m`). What it then does is all compared. Left out is what the
+//! original does behind a FENCE.I and at a word of the rest of M, which the tests `behind_fence_i` and `at_div` show.
 
 use crate::fence_i::{cut, limit_to_fence_i, words_to_fence_i};
 use crate::random::Random;
 use crate::requests;
+use crate::rest_of_m::{first_of_the_rest, judged, put_bodies, with_stand_ins};
 use crate::words;
 use emuko_original::{Access, Answer, Compiled, Emuko, Linked, Memory, Original, CODE_SIZE};
 use std::fs;
@@ -18,6 +20,8 @@ struct Both {
     original: Original,
     linked: Linked,
     bytes: [Vec<u8>; 2],
+    /// The mark of the linked one's store.
+    mark: usize,
 }
 
 impl Both {
@@ -26,10 +30,23 @@ impl Both {
             original: Original::new(code_size),
             linked: Linked::new(code_size),
             bytes: [Vec::new(), Vec::new()],
+            mark: 0,
         }
     }
 
-    /// The answer that both give, the original to the run up to a FENCE.I, and its bytes.
+    /// Another address space, which empties stores and maps.
+    fn set_satp(&mut self, satp: u64) {
+        self.original.set_satp(satp);
+        self.linked.set_satp(satp);
+        self.mark = 0;
+    }
+
+    fn set_enabled(&mut self, enabled: bool) {
+        self.original.set_enabled(enabled);
+        self.linked.set_enabled(enabled);
+    }
+
+    /// The answer that both give, the original to the run up to a FENCE.I with stand-ins, and its bytes.
     fn translate(
         &mut self,
         start: u64,
@@ -40,9 +57,14 @@ impl Both {
         let [original, linked] = &mut self.bytes;
         original.clear();
         linked.clear();
-        let expected = self
-            .original
-            .translate(start, limit, cut(halfwords), helpers, original);
+        let expected = judged(
+            &mut self.original,
+            start,
+            limit,
+            halfwords,
+            helpers,
+            original,
+        );
         let answer = self
             .linked
             .translate(start, limit, halfwords, helpers, linked);
@@ -51,46 +73,79 @@ impl Both {
         (answer, linked)
     }
 
-    /// Both compile from a memory of their own, which must be the same afterwards; what both have seen. The code at pc is `run`, and
-    /// the original goes no further than its first FENCE.I.
-    fn compile(&mut self, memory: &Memory, run: &[u16], pc: u64, limit: u32) -> (Compiled, Memory) {
-        let mut expected_memory = memory.clone();
-        let mut after = memory.clone();
+    /// Both compile from a memory of their own, in which the same must have changed afterwards; what both have seen. The code at pc is
+    /// `run`, and the original goes no further than its first FENCE.I.
+    fn compile(
+        &mut self,
+        memories: &Memories,
+        run: &[u16],
+        pc: u64,
+        limit: u32,
+    ) -> (Compiled, Memories) {
+        let mut after = memories.clone();
         let until = limit_to_fence_i(run, limit);
-        let expected = self.original.compile(&mut expected_memory, pc, until);
-        let compiled = self.linked.compile(&mut after, pc, limit);
+        let expected = self.original.compile(&mut after.original, pc, until);
+        let compiled = self.linked.compile(&mut after.linked, pc, limit);
+        let expected = self.with_bodies(expected, run);
+        self.mark = compiled.used;
         assert_eq!(compiled, expected, "{pc:x} {limit}");
         assert_eq!(
-            after.accesses, expected_memory.accesses,
+            after.linked.accesses, after.original.accesses,
             "accesses, {pc:x} {limit}"
         );
         assert!(
-            after.bytes == expected_memory.bytes,
+            changes(&memories.linked, &after.linked)
+                .eq(changes(&memories.original, &after.original)),
             "memory, {pc:x} {limit}"
         );
         (compiled, after)
     }
 
-    fn each(&mut self, mut what: impl FnMut(&mut dyn Settings)) {
-        what(&mut self.original);
-        what(&mut self.linked);
+    /// What the original has compiled of a run with stand-ins, bodies put in: the block's bytes, and where it then stands and ends.
+    fn with_bodies(&self, mut expected: Compiled, run: &[u16]) -> Compiled {
+        if first_of_the_rest(run).is_none() {
+            return expected;
+        }
+        if let Ok(Some((_, count))) = expected.result {
+            put_bodies(&self.original, run, count, &mut expected.bytes);
+            let offset = self.mark.next_multiple_of(4);
+            expected.result = Ok(Some((offset, count)));
+            expected.found = Some((offset, count));
+            expected.used = offset + expected.bytes.len();
+        }
+        expected
     }
 }
 
-/// What can be set of either.
-trait Settings {
-    fn satp(&mut self, satp: u64);
-    fn enabled(&mut self, enabled: bool);
+/// The guest's memory for each of the emulators. They differ in the code alone, the original's having stand-ins.
+#[derive(Clone)]
+struct Memories {
+    original: Memory,
+    linked: Memory,
 }
 
-impl<E: Emuko> Settings for E {
-    fn satp(&mut self, satp: u64) {
-        self.set_satp(satp);
+impl Memories {
+    /// Both by a function that writes a run into memory.
+    fn with(run: &[u16], write: impl Fn(&[u16]) -> Memory) -> Self {
+        Memories {
+            original: write(&with_stand_ins(run)),
+            linked: write(run),
+        }
     }
 
-    fn enabled(&mut self, enabled: bool) {
-        self.set_enabled(enabled);
+    /// No accesses yet.
+    fn forget_accesses(&mut self) {
+        self.original.accesses = Some(Vec::new());
+        self.linked.accesses = Some(Vec::new());
     }
+}
+
+/// The bytes that have changed, and what they have become.
+fn changes<'a>(before: &'a Memory, after: &'a Memory) -> impl Iterator<Item = (usize, u8)> + 'a {
+    let pairs = before.bytes.iter().zip(&after.bytes).enumerate();
+    pairs
+        .filter(|(_, (before, after))| before != after)
+        .map(|(k, (_, after))| (k, *after))
 }
 
 /// The reply of the corpus for a line: document 01's numbers and values.
@@ -107,7 +162,7 @@ fn corpus_reply(line: &str, both: &mut Both) -> String {
             let (answer, bytes) = both.translate(hex(start), limit.parse().unwrap(), &run, helpers);
             match answer {
                 // emuko has no lent output; document 01 adds number 5.
-                Answer::Block(_) if output.parse::<usize>().unwrap() < 2243 => "5".to_string(),
+                Answer::Block(_) if output.parse::<usize>().unwrap() < 4099 => "5".to_string(),
                 Answer::Block(count) => {
                     let text: String = bytes.iter().map(|byte| format!("{byte:02x}")).collect();
                     format!("block {} {count} {text}", bytes.len())
@@ -135,7 +190,8 @@ fn corpus_reply(line: &str, both: &mut Both) -> String {
     }
 }
 
-/// The 3,400 requests that came with the original, and 104 more, which the program replay is run on too.
+/// The 3,400 requests that came with the original, and 245 more, which the program replay is run on too; behind them stand lines that are
+/// no requests.
 #[test]
 fn corpus() {
     let replay = concat!(env!("CARGO_MANIFEST_DIR"), "/../crates/replay/");
@@ -143,11 +199,12 @@ fn corpus() {
     let replies = fs::read_to_string(format!("{replay}stdout")).unwrap();
     let mut both = Both::new(CODE_SIZE);
     let mut kinds = [0; 3];
-    for (request, reply) in requests.lines().zip(replies.lines()).take(3504) {
+    let answered = requests.lines().zip(replies.lines());
+    for (request, reply) in answered.take_while(|(_, reply)| *reply != "bad request") {
         assert_eq!(corpus_reply(request, &mut both), reply, "{request}");
         kinds["TPD".find(&request[..1]).unwrap()] += 1;
     }
-    assert_eq!(kinds, [3243, 201, 60]);
+    assert_eq!(kinds, [3384, 201, 60]);
 }
 
 #[test]
@@ -235,6 +292,14 @@ fn paged(run: &[u16], offset: u64, next: Next) -> Memory {
     memory
 }
 
+/// A run at an address of 64 bytes of memory, without page tables.
+fn bare(run: &[u16], at: u64) -> Memory {
+    let mut memory = Memory::new(BASE, 64);
+    let bytes: Vec<u8> = run.iter().flat_map(|half| half.to_le_bytes()).collect();
+    memory.write(at, &bytes);
+    memory
+}
+
 fn accessed(memory: &Memory, index: usize) -> bool {
     let at = (LEVEL_0 - BASE) as usize + 8 * index;
     memory.bytes[at] & ACCESSED as u8 != 0
@@ -256,17 +321,18 @@ fn ends() -> Vec<(Vec<u16>, usize)> {
         (vec![0x006F, 0x0000], 2), // JAL x0, 0
         (vec![0x100F, 0x0000], 2), // FENCE.I
         (vec![0xB083, 0x0000], 2), // LD x1, 0(x1)
-        (vec![0x91B3, 0x0220], 2), // MULH x3, x1, x2
+        (vec![0xC1B3, 0x4020], 2), // funct7 0x20 on funct3 4 of OP: not taken
         (vec![0x0001], 1),         // C.NOP
     ]
 }
 
 /// A block that needs so many halfwords, of which so many stand before the end of the page. What has to be seen is worked out by hand.
 fn around_one_end(both: &mut Both, run: &[u16], needed: u64, before: u64, next: Next) {
-    both.each(|emuko| emuko.satp(SATP));
+    both.set_satp(SATP);
     let offset = PAGE - 2 * before;
-    let memory = paged(run, offset, next);
-    let (compiled, after) = both.compile(&memory, run, CODE + offset, 64);
+    let memories = Memories::with(run, |run| paged(run, offset, next));
+    let (compiled, after) = both.compile(&memories, run, CODE + offset, 64);
+    let after = after.linked;
     let crosses = before < needed;
     let stops = crosses && !matches!(next, Next::Mapped | Next::Accessed);
     assert!(accessed(&after, 0));
@@ -287,12 +353,13 @@ fn around_one_end(both: &mut Both, run: &[u16], needed: u64, before: u64, next: 
 /// Blocks of one to three words that end before, at and across the end of a page, whatever the next page is.
 #[test]
 fn around_the_end_of_a_page() {
+    let straight = [0x0093, 0x0050, 0xC1B3, 0x0220]; // ADDI x1, x0, 5; DIV x3, x1, x2
     let mut cases = 0;
     for next in NEXT {
         let mut both = Both::new(CODE_SIZE);
         for words in 0..3 {
             for (end, needed) in ends() {
-                let mut run = [0x0093, 0x0050].repeat(words);
+                let mut run = straight[..2 * words].to_vec();
                 run.extend(end);
                 let needed = (2 * words + needed) as u64;
                 // The page ends behind so many of the run's halfwords, or far behind it.
@@ -313,10 +380,10 @@ fn traps() {
     let mut both = Both::new(CODE_SIZE);
     for next in [Next::NotMapped, Next::NotExecutable, Next::NoMemory] {
         for before in 0..4 {
-            both.each(|emuko| emuko.satp(SATP));
-            let memory = paged(&run, PAGE - 2 * before, next);
+            both.set_satp(SATP);
+            let memories = Memories::with(&run, |run| paged(run, PAGE - 2 * before, next));
             let pc = CODE + PAGE - 2 * before;
-            let (compiled, _) = both.compile(&memory, &run, pc, 64);
+            let (compiled, _) = both.compile(&memories, &run, pc, 64);
             let trap = match next {
                 Next::NoMemory => {
                     let addr = BASE + LENGTH as u64;
@@ -332,13 +399,39 @@ fn traps() {
         }
     }
     // Without page tables: the end of memory.
-    both.each(|emuko| emuko.satp(0));
+    both.set_satp(0);
     for before in 0..4 {
-        let mut memory = Memory::new(BASE, 64);
-        let bytes: Vec<u8> = run.iter().flat_map(|half| half.to_le_bytes()).collect();
-        memory.write(BASE + 64 - 2 * before, &bytes[..2 * before as usize]);
-        let (compiled, _) = both.compile(&memory, &run, BASE + 64 - 2 * before, 64);
+        let at = BASE + 64 - 2 * before as u64;
+        let memories = Memories::with(&run[..before], |run| bare(run, at));
+        let (compiled, _) = both.compile(&memories, &run, at, 64);
         assert_eq!(compiled.result.is_err(), before < 2);
+    }
+}
+
+/// How often each thing was seen at random places.
+#[derive(Debug, Default)]
+struct Seen {
+    blocks: u32,
+    traps: u32,
+    crossing: u32,
+    by_fence_i: u32,
+    of_the_rest: u32,
+}
+
+impl Seen {
+    fn add(&mut self, compiled: &Compiled, run: &[u16], memory: &Memory) {
+        match compiled.result {
+            Ok(Some((_, count))) => {
+                let count = count as usize;
+                self.blocks += 1;
+                self.by_fence_i += (words_to_fence_i(run) == Some(count)) as u32;
+                let met = first_of_the_rest(run).is_some_and(|first| first < count);
+                self.of_the_rest += met as u32;
+            }
+            Ok(None) => {}
+            Err(_) => self.traps += 1,
+        }
+        self.crossing += fetches(memory).iter().any(|addr| *addr < FIRST) as u32;
     }
 }
 
@@ -347,7 +440,7 @@ fn traps() {
 fn random_pages() {
     let mut r = Random::new(41);
     let mut both = Both::new(CODE_SIZE);
-    let (mut blocks, mut traps, mut crossing, mut by_fence_i) = (0, 0, 0, 0);
+    let mut seen = Seen::default();
     for _ in 0..20_000 {
         let mut run = requests::run(&mut r);
         run.truncate(200);
@@ -356,32 +449,33 @@ fn random_pages() {
         let offset = PAGE - 2 * r.below(80);
         let next = r.one_of(&NEXT);
         let limit = requests::limit(&mut r);
-        both.each(|emuko| emuko.satp(SATP));
-        let mut memory = paged(&run, offset, next);
-        let mut pc = CODE + offset;
-        if r.percent(3) {
-            pc += 1;
-        }
+        both.set_satp(SATP);
+        let mut memories = Memories::with(&run, |run| paged(run, offset, next));
+        let pc = CODE + offset + r.percent(3) as u64;
         for _ in 0..1 + r.below(2) {
-            let (compiled, after) = both.compile(&memory, &run, pc, limit);
-            match compiled.result {
-                Ok(Some((_, count))) => {
-                    blocks += 1;
-                    let ends = words_to_fence_i(&run) == Some(count as usize);
-                    by_fence_i += ends as u32;
-                }
-                Ok(None) => {}
-                Err(_) => traps += 1,
-            }
-            crossing += fetches(&after).iter().any(|addr| *addr < FIRST) as u32;
-            memory = after;
-            memory.accesses = Some(Vec::new());
+            let compiled;
+            (compiled, memories) = both.compile(&memories, &run, pc, limit);
+            seen.add(&compiled, &run, &memories.linked);
+            memories.forget_accesses();
         }
     }
+    println!("{seen:?}");
+    assert!(seen.blocks > 10_000 && seen.traps > 500, "{seen:?}");
+    assert!(seen.crossing > 2_000, "{seen:?}");
     assert!(
-        blocks > 10_000 && traps > 500 && crossing > 2_000 && by_fence_i > 1_000,
-        "{blocks} {traps} {crossing} {by_fence_i}"
+        seen.by_fence_i > 1_000 && seen.of_the_rest > 5_000,
+        "{seen:?}"
     );
+}
+
+/// What one of them compiles at the end of a page, the next one being mapped, and the memory behind it.
+fn at_the_end_of_a_page<E: Emuko>(run: &[u16]) -> (Compiled, Memory) {
+    let offset = PAGE - 4;
+    let mut memory = paged(run, offset, Next::Mapped);
+    let mut emuko = E::new(CODE_SIZE);
+    emuko.set_satp(SATP);
+    let compiled = emuko.compile(&mut memory, CODE + offset, 64);
+    (compiled, memory)
 }
 
 /// Where the two differ: FENCE.I is the last word of a page and ADDI the first of the next. The original fetches that, sets the next
@@ -389,55 +483,63 @@ fn random_pages() {
 #[test]
 fn behind_fence_i() {
     let run = [0x100F, 0x0000, 0x0093, 0x0050, 0x0073, 0x0000];
-    let (offset, pc) = (PAGE - 4, CODE + PAGE - 4);
-    fn compiled<E: Emuko>(memory: &mut Memory, pc: u64) -> Compiled {
-        let mut emuko = E::new(CODE_SIZE);
-        emuko.set_satp(SATP);
-        emuko.compile(memory, pc, 64)
-    }
-    let mut memory = paged(&run, offset, Next::Mapped);
-    let original = compiled::<Original>(&mut memory, pc);
+    let (original, memory) = at_the_end_of_a_page::<Original>(&run);
     assert_eq!((original.result, original.used), (Ok(Some((0, 2))), 88));
     assert_eq!(fetches(&memory).len(), 6);
     assert!(accessed(&memory, 1));
-    let mut memory = paged(&run, offset, Next::Mapped);
-    let linked = compiled::<Linked>(&mut memory, pc);
+    let (linked, memory) = at_the_end_of_a_page::<Linked>(&run);
     assert_eq!((linked.result, linked.used), (Ok(Some((0, 1))), 67));
     assert_eq!(fetches(&memory).len(), 2);
     assert!(!accessed(&memory, 1));
 }
 
+/// And the other way round: DIV x3, x1, x2 is the last word of a page and ADDI the first of the next. The original refuses DIV, marks its
+/// pc as failed and leaves the next page alone; the linked one has both words in its block.
+#[test]
+fn at_div() {
+    let run = [0xC1B3, 0x0220, 0x0093, 0x0050, 0x0073, 0x0000];
+    let (original, memory) = at_the_end_of_a_page::<Original>(&run);
+    assert_eq!((original.result, original.failed), (Ok(None), true));
+    assert_eq!(fetches(&memory).len(), 2);
+    assert!(!accessed(&memory, 1));
+    let (linked, memory) = at_the_end_of_a_page::<Linked>(&run);
+    assert_eq!((linked.result, linked.failed), (Ok(Some((0, 2))), false));
+    assert_eq!(linked.used, 67 + 55 + 21);
+    assert_eq!(fetches(&memory).len(), 6);
+    assert!(accessed(&memory, 1));
+}
+
 /// Nothing is fetched, and the last access stays, where the limit is 0, the pc is odd or the translator is not enabled.
 #[test]
 fn nothing_fetched() {
-    let memory = Memory::new(BASE, 64);
+    let memories = Memories::with(&[], |run| bare(run, BASE));
     let mut both = Both::new(CODE_SIZE);
-    let (compiled, after) = both.compile(&memory, &[], BASE, 0);
-    assert_eq!((compiled.result, fetches(&after)), (Ok(None), vec![]));
-    let (compiled, after) = both.compile(&memory, &[], BASE + 1, 64);
+    let (compiled, after) = both.compile(&memories, &[], BASE, 0);
+    let fetched = |after: Memories| fetches(&after.linked);
+    assert_eq!((compiled.result, fetched(after)), (Ok(None), vec![]));
+    let (compiled, after) = both.compile(&memories, &[], BASE + 1, 64);
     let trap = format!("MisalignedAccess {{ addr: {}, size: 2 }}", BASE + 1);
-    assert_eq!((compiled.result, fetches(&after)), (Err(trap), vec![]));
-    let (compiled, _) = both.compile(&memory, &[], BASE + 1, 0);
+    assert_eq!((compiled.result, fetched(after)), (Err(trap), vec![]));
+    let (compiled, _) = both.compile(&memories, &[], BASE + 1, 0);
     assert_eq!(compiled.result, Ok(None));
     assert_eq!(compiled.last_access, "None");
-    both.each(|emuko| emuko.enabled(false));
-    let (compiled, after) = both.compile(&memory, &[], BASE, 64);
-    assert_eq!((compiled.result, fetches(&after)), (Ok(None), vec![]));
+    both.set_enabled(false);
+    let (compiled, after) = both.compile(&memories, &[], BASE, 64);
+    assert_eq!((compiled.result, fetched(after)), (Ok(None), vec![]));
     assert!(!compiled.enabled);
 }
 
 /// A store without room for the next block turns the translator off.
 #[test]
 fn a_full_store() {
-    let mut memory = Memory::new(BASE, 64);
-    memory.write(BASE, &[0x93, 0x00, 0x50, 0x00, 0x73, 0x00, 0x00, 0x00]);
-    let mut both = Both::new(200);
     let run = [0x0093, 0x0050, 0x0073, 0x0000];
-    let (compiled, _) = both.compile(&memory, &run, BASE, 64);
+    let memories = Memories::with(&run, |run| bare(run, BASE));
+    let mut both = Both::new(200);
+    let (compiled, _) = both.compile(&memories, &run, BASE, 64);
     assert_eq!(compiled.result, Ok(Some((0, 1))));
-    let (compiled, _) = both.compile(&memory, &run, BASE, 64);
+    let (compiled, _) = both.compile(&memories, &run, BASE, 64);
     assert_eq!((compiled.result, compiled.used), (Ok(Some((88, 1))), 176));
-    let (compiled, _) = both.compile(&memory, &run, BASE, 64);
+    let (compiled, _) = both.compile(&memories, &run, BASE, 64);
     assert_eq!((compiled.result, compiled.enabled), (Ok(None), false));
     assert_eq!(compiled.found, Some((88, 1)));
 }
@@ -454,7 +556,8 @@ fn traced() {
         emuko.set_trace(true);
         let mut r = Random::new(42);
         for _ in 0..200 {
-            let run = requests::run(&mut r);
+            // Words are traced with their numbers, so that both must be given the same ones.
+            let run = with_stand_ins(&requests::run(&mut r)).into_owned();
             let start = requests::start(&mut r);
             let limit = requests::limit(&mut r);
             emuko.translate(start, limit, seen(&run), HELPERS, &mut Vec::new());

@@ -9,10 +9,14 @@ mod archive;
 mod cases;
 #[cfg(all(target_arch = "x86_64", target_os = "linux"))]
 mod entered;
+#[cfg(all(target_arch = "x86_64", target_os = "linux"))]
+mod entered_m;
 mod fence_i;
 mod in_c;
 mod kinds;
 mod linked;
+#[cfg(all(target_arch = "x86_64", target_os = "linux"))]
+mod machine;
 #[cfg(all(target_arch = "x86_64", target_os = "linux"))]
 mod manual;
 mod papers;
@@ -20,5 +24,6 @@ mod placing;
 mod random;
 mod readme;
 mod requests;
+mod rest_of_m;
 mod run;
 mod words;

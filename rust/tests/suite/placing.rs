@@ -22,7 +22,7 @@ impl Comparison {
     fn new(seed: u64) -> Self {
         let mut r = Random::new(seed);
         Comparison {
-            code: (0..8192).map(|_| r.u32() as u8).collect(),
+            code: (0..8400).map(|_| r.u32() as u8).collect(),
             store: Lent::new(seed + 1),
             number: 0,
         }
@@ -77,7 +77,7 @@ fn every_small_case() {
 fn around_the_end() {
     let mut comparison = Comparison::new(11);
     let mut cases = 0;
-    for code in [0, 1, 3, 4, 67, 81, 85, 88, 102, 116, 2242, 2243] {
+    for code in [0, 1, 3, 4, 67, 81, 85, 88, 102, 116, 2242, 2243, 4098, 4099] {
         for used in (0..=9).chain(4093usize..=4099) {
             let end = used.next_multiple_of(4) + code;
             for store in end.saturating_sub(4)..=end + 4 {
@@ -89,22 +89,22 @@ fn around_the_end() {
             }
         }
     }
-    assert_eq!(cases, 1828);
+    assert_eq!(cases, 14 * 17 * 9 - 8);
 }
 
-/// Around the length up to which code is read whole before it is written.
+/// Around the greatest block's length, and around the length up to which code is read whole before it is written, 8,192.
 #[test]
 fn long_code() {
     let mut comparison = Comparison::new(16);
     let mut placed = 0;
-    for code in (4090..=4170).chain([5000, 6001, 8000]) {
+    for code in (4090..=4170).chain(8186..=8270).chain([5000, 6001, 8000]) {
         for used in 0..=5 {
-            for store in [8100, 8192] {
+            for store in [8279, 8320] {
                 placed += comparison.reply(used, store, code).is_ok() as u32;
             }
         }
     }
-    assert_eq!(placed, 84 * 6 * 2);
+    assert_eq!(placed, (81 + 85 + 3) * 6 * 2);
 }
 
 #[test]
@@ -113,16 +113,16 @@ fn random_cases() {
     let mut comparison = Comparison::new(12);
     let mut placed = 0;
     for _ in 0..20_000 {
-        let used = r.below(5000) as usize;
+        let used = r.below(4000) as usize;
         let store = if r.percent(10) {
             r.below(used as u64 + 1) as usize
         } else {
-            used + r.below(3000) as usize
+            used + r.below(4300) as usize
         };
         let code = match r.below(3) {
             0 => r.below(8) as usize,
             1 => (store.saturating_sub(used) + 3).saturating_sub(r.below(7) as usize),
-            _ => r.below(2300) as usize,
+            _ => r.below(4150) as usize,
         };
         placed += comparison.reply(used, store, code).is_ok() as u32;
     }
@@ -150,7 +150,7 @@ fn stores_in_a_row() {
     let mut mark = 0;
     let mut refusals = 0;
     for k in 0..5_000 {
-        let code: Vec<u8> = (0..r.below(2244)).map(|_| r.u32() as u8).collect();
+        let code: Vec<u8> = (0..r.below(4100)).map(|_| r.u32() as u8).collect();
         let reply = answer(ours.place(&code));
         match Original::place(&code, &mut bytes, mark) {
             Some((offset, new)) => {

@@ -33,29 +33,67 @@ pub fn run(r: &mut Random) -> Vec<u16> {
 }
 
 fn run_to_an_end(r: &mut Random) -> Vec<u16> {
-    let mut run = Vec::new();
-    match r.below(20) {
+    let mut run = match r.below(20) {
         0 => return (0..r.below(140)).map(|_| r.u32() as u16).collect(),
         1 => {
-            for _ in 0..r.below(70) {
-                run.extend(words::halves(r.u32() | 3));
-            }
-            return run;
+            let words = r.below(70);
+            return (0..words)
+                .flat_map(|_| words::halves(r.u32() | 3))
+                .collect();
         }
-        // The greatest length is reached by SLLW, SRLW and SRAW alone.
-        2 => {
-            let word = r.one_of(&[0x0020_91BB, 0x0020_D1BB, 0x4020_D1BB]);
-            for _ in 0..60 + r.below(8) {
-                run.extend(words::halves(word));
-            }
-        }
-        _ => {
-            let longest = r.one_of(&[1, 2, 4, 8, 16, 66, 70]);
-            for _ in 0..r.below(longest) {
-                run.extend(words::halves(words::straight(r)));
-            }
+        2 => the_same_word(r),
+        3 => the_rest_of_m(r),
+        _ => straight_words(r),
+    };
+    end(r, &mut run);
+    // What stands behind the end must not matter, and behind no end it goes on.
+    if r.percent(30) {
+        for _ in 0..r.below(6) {
+            run.push(r.u32() as u16);
         }
     }
+    run
+}
+
+/// A long word again and again: DIVW alone reaches the greatest length, and SLLW, SRLW and SRAW are the longest of the original's.
+fn the_same_word(r: &mut Random) -> Vec<u16> {
+    let word = r.one_of(&[0x0220_C1BB, 0x0020_91BB, 0x0020_D1BB, 0x4020_D1BB]);
+    words::halves(word).repeat(60 + r.below(8) as usize)
+}
+
+/// Registers that lists of turns begin with the most negative number in, and with -1: their quotient overflows.
+pub const OVERFLOW: [usize; 2] = [29, 30];
+
+/// Words of M whose results go to three registers, so that the values of the others stay operands; a fifth of them have those above.
+fn the_rest_of_m(r: &mut Random) -> Vec<u16> {
+    const RD: u32 = 31 << 7;
+    const RS1_RS2: u32 = 31 << 15 | 31 << 20;
+    let to = [28, 31, r.below(32) as u32];
+    let longest = r.one_of(&[4, 16, 66]);
+    let words = 1 + r.below(longest);
+    let mut word = || {
+        let word = words::of_m(r) & !RD | r.one_of(&to) << 7;
+        if r.percent(20) {
+            let [rs1, rs2] = OVERFLOW.map(|register| register as u32);
+            word & !RS1_RS2 | rs1 << 15 | rs2 << 20
+        } else {
+            word
+        }
+    };
+    (0..words).flat_map(|_| words::halves(word())).collect()
+}
+
+/// Straight words, in every second run none but the original's.
+fn straight_words(r: &mut Random) -> Vec<u16> {
+    let word = r.one_of(&[words::straight, words::straight_in_the_original]);
+    let longest = r.one_of(&[1, 2, 4, 8, 16, 66, 70]);
+    (0..r.below(longest))
+        .flat_map(|_| words::halves(word(r)))
+        .collect()
+}
+
+/// What stands behind straight words.
+fn end(r: &mut Random, run: &mut Vec<u16>) {
     match r.below(12) {
         0..=2 => run.extend(words::halves(words::ending(r))),
         3..=4 => run.extend(words::halves(words::memory(r))),
@@ -65,13 +103,6 @@ fn run_to_an_end(r: &mut Random) -> Vec<u16> {
         9 => run.push(r.u32() as u16 | 3),
         _ => {}
     }
-    // What stands behind the end must not matter, and behind no end it goes on.
-    if r.percent(30) {
-        for _ in 0..r.below(6) {
-            run.push(r.u32() as u16);
-        }
-    }
-    run
 }
 
 pub fn start(r: &mut Random) -> u64 {
@@ -102,7 +133,8 @@ pub fn wanted(r: &mut Random) -> Wanted {
         memory: r.u64(),
     };
     let output = match r.below(20) {
-        0 => r.one_of(&[0, 1, 67, GREATEST_BLOCK - 1]),
+        // 2,243 was enough for every block before request Q-2, and is for the original's.
+        0 => r.one_of(&[0, 1, 67, 2242, 2243, GREATEST_BLOCK - 1]),
         1 => r.below(GREATEST_BLOCK as u64) as usize,
         2..=5 => GREATEST_BLOCK + r.below(600) as usize,
         _ => GREATEST_BLOCK,
@@ -121,7 +153,7 @@ pub fn wanted(r: &mut Random) -> Wanted {
 }
 
 /// The greatest length lent.
-const LONGEST: usize = 8192;
+const LONGEST: usize = 8320;
 /// Bytes on both sides of what is lent, at least.
 const MARGIN: usize = 64;
 /// What is lent begins at as many different places.

@@ -96,6 +96,12 @@ fn ends_of_runs() {
         Ok(4)
     );
     assert_eq!(length(0, 64, &[0x100F, 0x0000].repeat(70)), Ok(2));
+    // The rest of M is straight; its opcodes with another funct7 are not taken.
+    let divided = [0xC1B3, 0x0220, 0xF1BB, 0x0220]; // DIV, REMUW x3, x1, x2
+    assert_eq!(length(0, 64, &divided.repeat(35)), Ok(128));
+    assert_eq!(length(0, 64, &[0xC1B3, 0x0220, 0x0001]), Ok(3));
+    assert_eq!(length(0, 64, &[0xC1B3, 0x4020, 0x0001]), Ok(2));
+    assert_eq!(length(0, 64, &[0x91BB, 0x0220, 0x0001]), Ok(2));
     assert_eq!(length(0, 64, &[]), Err(()));
     assert_eq!(length(0, 64, &[0x000F]), Err(()));
 }

@@ -1,4 +1,4 @@
-//! Guest instructions of every sort that document 01 names.
+//! Guest instructions of every sort that document 01 and request Q-2 name.
 
 use crate::random::Random;
 
@@ -24,7 +24,8 @@ const MISC_MEM: u32 = 0x0F;
 const LOAD: u32 = 0x03;
 const STORE: u32 = 0x23;
 
-/// The words that are translated and do not end a block, by opcode and funct3; LUI and AUIPC stand first and have no funct3.
+/// The words that the original Rust translates and that do not end a block, by opcode and funct3; LUI and AUIPC stand first and have no
+/// funct3.
 const STRAIGHT: [(u32, u32, Top); 33] = [
     (0x37, 0, Any),
     (0x17, 0, Any),
@@ -59,6 +60,21 @@ const STRAIGHT: [(u32, u32, Top); 33] = [
     (OP_32, 5, Seven(0x20)),
     (OP_32, 0, Seven(1)),
     (MISC_MEM, 0, Any),
+];
+
+/// The rest of M, which is translated since request Q-2: opcode and funct3, funct7 being 1.
+const REST_OF_M: [(u32, u32); 11] = [
+    (OP, 1),
+    (OP, 2),
+    (OP, 3),
+    (OP, 4),
+    (OP, 5),
+    (OP, 6),
+    (OP, 7),
+    (OP_32, 4),
+    (OP_32, 5),
+    (OP_32, 6),
+    (OP_32, 7),
 ];
 
 /// Opcodes of which no word is translated: SYSTEM, AMO, floating point, those kept for other uses, and those of longer instructions.
@@ -117,12 +133,36 @@ fn upper_word(r: &mut Random, opcode: u32) -> u32 {
     twenty << 12 | register(r) << 7 | opcode
 }
 
-/// A word that is translated and does not end the block.
-pub fn straight(r: &mut Random) -> u32 {
+/// A word that the original translates, and that does not end the block.
+pub fn straight_in_the_original(r: &mut Random) -> u32 {
     let (opcode, funct3, top) = r.one_of(&STRAIGHT);
     match opcode {
         0x37 | 0x17 => upper_word(r, opcode),
         _ => word(r, opcode, funct3, top),
+    }
+}
+
+/// One of the eleven words of request Q-2.
+pub fn rest_of_m(r: &mut Random) -> u32 {
+    let (opcode, funct3) = r.one_of(&REST_OF_M);
+    word(r, opcode, funct3, Seven(1))
+}
+
+/// A word of M: the eleven, MUL or MULW.
+pub fn of_m(r: &mut Random) -> u32 {
+    match r.below(13) {
+        0 => word(r, OP, 0, Seven(1)),
+        1 => word(r, OP_32, 0, Seven(1)),
+        _ => rest_of_m(r),
+    }
+}
+
+/// A word that is translated and does not end the block.
+pub fn straight(r: &mut Random) -> u32 {
+    if r.percent(25) {
+        rest_of_m(r)
+    } else {
+        straight_in_the_original(r)
     }
 }
 
@@ -186,64 +226,74 @@ fn other(r: &mut Random, n: u64, but: &[u32]) -> u32 {
     }
 }
 
-/// A word that is not taken, of any sort.
-pub fn not_taken(r: &mut Random) -> u32 {
-    match r.below(14) {
-        // The rest of M, and OP with a funct7 of no row.
+/// A word of OP or OP_32 that is not taken: it leaves its two loads.
+fn not_taken_op(r: &mut Random) -> u32 {
+    match r.below(5) {
+        // A funct7 of no row.
         0 => {
-            let funct3 = 1 + r.below(7) as u32;
-            word(r, OP, funct3, Seven(1))
-        }
-        1 => {
             let funct3 = r.below(8) as u32;
             let seven = other(r, 128, &[0, 1, 0x20]);
             word(r, OP, funct3, Seven(seven))
         }
-        2 => {
+        1 => {
             let funct3 = r.one_of(&[1, 2, 3, 4, 6, 7]);
             word(r, OP, funct3, Seven(0x20))
         }
-        3 => {
-            let funct3 = r.one_of(&[2, 3, 4, 6, 7]);
-            let any = r.below(128) as u32;
-            let seven = r.one_of(&[0, 1, 0x20, any]);
-            word(r, OP_32, funct3, Seven(seven))
-        }
-        4 => {
-            let funct3 = r.one_of(&[0, 1, 5]);
+        2 => {
+            let funct3 = r.below(8) as u32;
             let seven = other(r, 128, &[0, 1, 0x20]);
             word(r, OP_32, funct3, Seven(seven))
         }
-        5 => {
-            let (funct3, seven) = r.one_of(&[(1, 1), (1, 0x20), (5, 1)]);
+        3 => {
+            let funct3 = r.one_of(&[2, 3, 4, 6, 7]);
+            let seven = r.one_of(&[0, 0x20]);
             word(r, OP_32, funct3, Seven(seven))
         }
-        6 => {
+        // M has no W forms of MULH, MULHSU and MULHU.
+        _ => {
+            let (funct3, seven) = r.one_of(&[(1, 1), (2, 1), (3, 1), (1, 0x20)]);
+            word(r, OP_32, funct3, Seven(seven))
+        }
+    }
+}
+
+/// A word of OP_IMM or OP_IMM_32 that is not taken: it leaves its load.
+fn not_taken_immediate(r: &mut Random) -> u32 {
+    match r.below(4) {
+        0 => {
             let six = other(r, 64, &[0]);
             word(r, OP_IMM, 1, Six(six))
         }
-        7 => {
+        1 => {
             let six = other(r, 64, &[0, 0x10]);
             word(r, OP_IMM, 5, Six(six))
         }
-        8 => {
+        2 => {
             let (funct3, but) = r.one_of(&[(1, [0, 0]), (5, [0, 0x20])]);
             let seven = other(r, 128, &but);
             word(r, OP_IMM_32, funct3, Seven(seven))
         }
-        9 => {
+        _ => {
             let funct3 = r.one_of(&[2, 3, 4, 6, 7]);
             word(r, OP_IMM_32, funct3, Any)
         }
-        10 => {
+    }
+}
+
+/// A word that is not taken, of any sort.
+pub fn not_taken(r: &mut Random) -> u32 {
+    match r.below(13) {
+        0..=4 => not_taken_op(r),
+        5..=8 => not_taken_immediate(r),
+        9 => {
             let funct3 = r.one_of(&[2, 3]);
             word(r, BRANCH, funct3, Any)
         }
-        11 => {
+        10 => {
             let funct3 = 2 + r.below(6) as u32;
             word(r, MISC_MEM, funct3, Any)
         }
-        12 => {
+        11 => {
             let (opcode, funct3) =
                 r.one_of(&[(LOAD, 7), (STORE, 4), (STORE, 5), (STORE, 6), (STORE, 7)]);
             word(r, opcode, funct3, Any)
