@@ -6,8 +6,9 @@
 Builds the tests of rust/ (cargo, `rt`), copies their program, changes one bit in a function of the archive, and runs the tests: some
 must fail, or the program end by a fault or hang. A change that no test notices is printed with the instruction it stands in, to be read:
 there are bits that change nothing, such as unused bits of a prefix, upper bits of a shift count, or padding. Those that have been read
-and found harmless are listed in HARMLESS, by the instruction that they stand in, and pass. Needs nm, readelf and objdump (binutils). The program
-runs damaged code in a process of its own with nothing but this user's rights. How far it is goes to standard error.
+and found harmless are listed in HARMLESS, by the instruction that they stand in, and pass. Needs nm, readelf and objdump (binutils). The
+damaged code runs in a process of its own with nothing but this user's rights, or nobody's where this is root. How far it is goes to
+standard error.
 
 The exit code is 0 where every change was noticed or is listed, else 1.
 """
@@ -25,26 +26,36 @@ import time
 ROOT = os.path.dirname(os.path.dirname(os.path.abspath(__file__)))
 ARCHIVE = os.path.join(ROOT, "target", "staticlib", "libcapi.a")
 
+NOBODY = 65534
+
 # Quick and sharp ones first: the first failure is enough.
 PARTS = ["cases", "every_", "placing", "sorts", "entered", "random_requests", "kinds"]
 
 # Changes that no caller can see, read one by one: function, place of the byte, bit; the instruction as objdump has it without addresses,
 # and why. Where the compiler writes other code, an entry fits no more, and what is then not noticed has to be read anew.
 OVERLAP = "only code and store that overlap come here, and these can't be lent"
+DIGIT = "REX.R, where a digit and no register stands"
 HARMLESS = {
-    ("emuko_translate", 0x03B, 1): ("mov 0x18(%rsp),%rcx", "a store, of what stands there already"),
-    ("emuko_translate", 0x202, 3): ("sar $0x13,%r15d", "the mask behind it leaves the sign alone, by 19 as by 27"),
-    ("emuko_translate", 0x2AA, 3): ("movb $0x93,0xc(%r8,%r14,1)", "REX.W, which a store of a byte does not heed"),
-    ("emuko_translate", 0x411, 2): ("cmp $0x20,%r9b", "REX.R, where a digit and no register stands"),
-    ("emuko_translate", 0x612, 3): ("add %rcx,%r14", "REX.W; the sum is a place in the block, its upper half 0"),
-    ("emuko_translate", 0x619, 3): ("mov (%rsp),%r12", "REX.W; the count is loaded, its upper half 0"),
-    ("emuko_translate", 0x903, 2): ("movw $0x5b5d,0xc(%r8,%r14,1)", "REX.R, where a digit and no register stands"),
-    ("emuko_translate", 0x947, 2): ("jmp emuko_translate", "to one instruction before, which loads the count that R12 holds already"),
-    ("emuko_translate", 0xAD9, 6): ("mov %cx,0x22(%r8,%r14,1)", "a store of 32 bits, the upper 16 of which are written over next"),
+    ("emuko_translate", 0x05F, 3): ("movzwl 0x2(%rdi),%ebx", "MOVSX; the half that it fills otherwise is shifted out"),
+    ("emuko_translate", 0x18B, 2): ("movb $0x93,0x2(%r8,%r14,1)", DIGIT),
+    ("emuko_translate", 0x1D7, 0): ("not %ecx", "NOT of CL, of which two bits are then tested"),
+    ("emuko_translate", 0x264, 2): ("jmp *%r8", DIGIT),
+    ("emuko_translate", 0x28B, 1): ("je emuko_translate", "JBE; the TEST before it clears the carry"),
+    ("emuko_translate", 0x30A, 0): ("mov 0x10(%rsp),%r9", "a byte is loaded; the place in the run is below 256, and the rest of R9 is 0"),
+    ("emuko_translate", 0x34E, 2): ("add $0x11,%r14", DIGIT),
+    ("emuko_translate", 0x357, 3): ("jmp emuko_translate", "to two loads before, of what the registers hold already"),
+    ("emuko_translate", 0x427, 5): ("shr $0xa,%r12d", "a count is taken modulo 32"),
+    ("emuko_translate", 0x619, 3): ("movzbl %r9b,%edx", "REX.W; the upper half becomes 0 without it too"),
+    ("emuko_translate", 0x730, 3): ("movb $0xfa,0x2(%r8,%r9,1)", "REX.W, which a store of a byte does not heed"),
+    ("emuko_translate", 0x7E0, 1): ("jmp emuko_translate", "to two bytes before: an addition to a byte of the reply, written later"),
+    ("emuko_translate", 0xC23, 2): ("movw $0x8b4c,(%r8,%r13,1)", DIGIT),
+    ("emuko_translate", 0xCC6, 4): ("movabs $0x43424d4c00004544,%rdi", "the condition of a branch with funct3 2, which there is none of"),
+    ("emuko_translate", 0xD3E, 4): ("and $0x200000,%r12d", "the shift before it leaves this bit 0"),
     ("kind::word_kind", 0x046, 6): ("shl $0x3,%r9b", "a count is taken modulo 32"),
-    ("emuko_place", 0x05F, 5): ("cmp $0x1000,%rdx", "the length up to which memmove copies: the loop and memmove do the same"),
+    ("emuko_place", 0x05F, 5): ("cmp $0x2000,%rdx", "the length up to which memmove copies: the loop and memmove do the same"),
     ("emuko_place", 0x155, 3): ("test $0x1c,%dl", "F6 with the digit 1 is TEST too"),
     ("emuko_place", 0x103, 2): ("movzbl 0x3(%rsi,%r11,1),%r8d", OVERLAP),
+    ("emuko_place", 0x10C, 4): ("add $0x4,%r11", OVERLAP),
     ("emuko_place", 0x110, 0): ("cmp %r11,%rdx", OVERLAP),
     ("emuko_place", 0x114, 5): ("jmp emuko_place", OVERLAP),
 }
@@ -90,9 +101,11 @@ def functions(program):
 
 
 def noticed(program):
+    rights = {"user": NOBODY, "group": NOBODY, "extra_groups": []} if os.geteuid() == 0 else {}
     for part in PARTS:
+        command, nothing = [program, "--test-threads=1", part], subprocess.DEVNULL
         try:
-            run = subprocess.run([program, "--test-threads=1", part], stdout=subprocess.DEVNULL, stderr=subprocess.DEVNULL, timeout=120)
+            run = subprocess.run(command, stdout=nothing, stderr=nothing, timeout=120, start_new_session=True, **rights)
         except subprocess.TimeoutExpired:
             return True
         if run.returncode != 0:
@@ -134,10 +147,11 @@ def main():
     tried = missed = known = 0
     shown = time.monotonic()
     with tempfile.TemporaryDirectory() as folder:
+        os.chmod(folder, 0o755)
         changed = os.path.join(folder, "suite")
         with open(changed, "wb") as file:
             file.write(data)
-        os.chmod(changed, 0o700)
+        os.chmod(changed, 0o755)
         if noticed(changed):
             sys.exit("the tests fail without any change")
         for name, place, bit, mutant in changed_bits(data, all_functions, rng, options.number):
