@@ -7,7 +7,7 @@ use native.Mathlib.Omega.{arith}
 use lib.ListN.{length}
 use Rattle.agreement.specs.Common.{Helper, Helper.forAccess, Helper.forHalfword}
 use Rattle.agreement.specs.Riscv.Fields.{opcode, plus, rd, rs1, rs2, shamt5, shamt6}
-use Rattle.agreement.specs.Riscv.Instruction.{Instruction, valueOp, valueOpImm}
+use Rattle.agreement.specs.Riscv.Instruction.{Branch, Instruction, Op, OpImm, valueOp, valueOpImm}
 use Rattle.agreement.specs.Riscv.Instruction.Instruction.{AUIPC, FENCE, FENCE·I, JAL, JALR, LUI, access, branch, op, opImm, other}
 use Rattle.agreement.specs.Riscv.Instruction.Instruction.{unmodelled}
 use Rattle.agreement.specs.Riscv.Run.{Read, Registers, Stop, does, halt, help, isLong, jump, oneMore, reading, taken, wordOf, writeX}
@@ -140,48 +140,81 @@ module _ (undefined : State → Flags) (b : ℕ) (fits : b + 256 ≤ 2 ^ 64) whe
   then : (is : List Instr) (p : Walked) (r : Read) (s : State) → Fit is → Agree p r (run undefined is s) → Agree (before is p) (oneMore r) s
   then is p r s f a = along is p r s (run undefined is s) (length is) (leads-straight undefined is s f) a
 
-  -- one lemma per instruction; f goes on with what follows
-  agree-word : (i : Instruction) (pc w : ℕ) (p : Walked) (x : Registers) (k : Registers → Read) (s : State) → w < 2 ^ 32 → Slots b x s
+  -- what is shown of an instruction; f goes on with what follows
+  abbrev WordAgrees : Instruction → Type 0
+  WordAgrees i =
+      (pc w : ℕ) (p : Walked) (x : Registers) (k : Registers → Read) (s : State) → w < 2 ^ 32 → Slots b x s
       → ((x : Registers) (s : State) → Slots b x s → Agree p (k x) s) → Agree (emit i pc w p) (does i pc w x k) s
+
+  -- one lemma per instruction or family
+  agree-op : (o : Op) → WordAgrees (op o)
   unfolding emit does
-  agree-word (op o) pc w p x k s lw h f = rw (rd-is w, rs1-is w, rs2-is w)
+  agree-op o pc w p x k s lw h f = rw (rd-is w, rs1-is w, rs2-is w)
       (let d = op-done undefined b fits o x s (rd w) (rs1 w) (rs2 w) h (omega arith) (omega arith) (omega arith) in
       along (codeOp o (rd w) (rs1 w) (rs2 w)) p (k (writeX x (rd w) (valueOp o (x (rs1 w)) (x (rs2 w))))) s (d .t) (d .n)
       (d .leads) (f _ _ (d .slots)))
-  agree-word (opImm o) pc w p x k s lw h f = rw (rd-is w, rs1-is w, shamt6-is w, shamt5-is w)
+
+  agree-op-imm : (o : OpImm) → WordAgrees (opImm o)
+  unfolding emit does
+  agree-op-imm o pc w p x k s lw h f = rw (rd-is w, rs1-is w, shamt6-is w, shamt5-is w)
       (then (codeOpImm o (rd w) (rs1 w) (Decode32.imm32 w) (shamt6 w) (shamt5 w)) p
       (k (writeX x (rd w) (valueOpImm o (x (rs1 w)) (Manual.immI w) (shamt6 w) (shamt5 w)))) s
       (fit-imm o (rd w) (rs1 w) (Decode32.imm32 w) (shamt6 w) (shamt5 w)
       (omega arith) (omega arith) (imm32-lt w) (omega arith) (omega arith))
       (f _ _ (opImm-slots undefined b fits o x s (rd w) (rs1 w) (Decode32.imm32 w) (Manual.immI w) (shamt6 w) (shamt5 w) h
       (omega arith) (omega arith) (immI-lt w) (omega arith) (omega arith) (imm32-is w lw))))
-  agree-word LUI pc w p x k s lw h f = rw (immU-is w, rd-is w)
+
+  agree-lui : WordAgrees LUI
+  unfolding emit does
+  agree-lui pc w p x k s lw h f = rw (immU-is w, rd-is w)
       (then (codeConst (rd w) (Manual.immU w)) p (k (writeX x (rd w) (Manual.immU w))) s
       (fit-const (rd w) (Manual.immU w) (omega arith) (immU-lt w))
       (f _ _ (const-slots undefined b fits x s (rd w) (Manual.immU w) h (omega arith) (immU-lt w))))
-  agree-word AUIPC pc w p x k s lw h f = rw (immU-is w, rd-is w)
+
+  agree-auipc : WordAgrees AUIPC
+  unfolding emit does
+  agree-auipc pc w p x k s lw h f = rw (immU-is w, rd-is w)
       (then (codeConst (rd w) (plus pc (Manual.immU w))) p (k (writeX x (rd w) (plus pc (Manual.immU w)))) s
       (fit-const (rd w) (plus pc (Manual.immU w)) (omega arith) (plus-lt pc (Manual.immU w)))
       (f _ _ (const-slots undefined b fits x s (rd w) (plus pc (Manual.immU w)) h (omega arith) (plus-lt pc (Manual.immU w)))))
-  agree-word FENCE pc w p x k s lw h f = then [] p (k x) s fit-nil (unfold run in f x s h)
-  agree-word FENCE·I pc w p x k s lw h f = stopping _ x _ s fit-nil (unfold run in h)
-  agree-word (branch c) pc w p x k s lw h f = rw (immB-is w, rs1-is w, rs2-is w)
+
+  agree-branch : (c : Branch) → WordAgrees (branch c)
+  unfolding emit does
+  agree-branch c pc w p x k s lw h f = rw (immB-is w, rs1-is w, rs2-is w)
       (jumping (codeBranch c (rs1 w) (rs2 w) (plus pc 4) (plus pc (Manual.immB w))) x _ s
       (fit-branch c (rs1 w) (rs2 w) (plus pc 4) (plus pc (Manual.immB w))
       (omega arith) (omega arith) (plus-lt pc 4) (plus-lt pc (Manual.immB w)))
       (branch-jumps undefined b fits c x s (rs1 w) (rs2 w) (plus pc 4) (plus pc (Manual.immB w)) h (omega arith) (omega arith)))
-  agree-word JAL pc w p x k s lw h f = rw (immJ-is w, rd-is w)
+
+  agree-jal : WordAgrees JAL
+  unfolding emit does
+  agree-jal pc w p x k s lw h f = rw (immJ-is w, rd-is w)
       (jumping (codeJal (rd w) (plus pc 4) (plus pc (Manual.immJ w))) (writeX x (rd w) (plus pc 4)) _ s
       (fit-jal (rd w) (plus pc 4) (plus pc (Manual.immJ w)) (omega arith) (plus-lt pc 4) (plus-lt pc (Manual.immJ w)))
       (jal-jumps undefined b fits x s (rd w) (plus pc 4) (plus pc (Manual.immJ w)) h (omega arith) (plus-lt pc 4)))
-  agree-word JALR pc w p x k s lw h f = rw (rd-is w, rs1-is w)
+
+  agree-jalr : WordAgrees JALR
+  unfolding emit does
+  agree-jalr pc w p x k s lw h f = rw (rd-is w, rs1-is w)
       (jumping (codeJalr (rd w) (rs1 w) (Decode32.imm32 w) (plus pc 4)) (writeX x (rd w) (plus pc 4)) _ s
       (fit-jalr (rd w) (rs1 w) (Decode32.imm32 w) (plus pc 4) (omega arith) (omega arith) (imm32-lt w) (plus-lt pc 4))
       (jalr-jumps undefined b fits x s (rd w) (rs1 w) (Decode32.imm32 w) (Manual.immI w) (plus pc 4) h
       (omega arith) (omega arith) (imm32-is w lw) (plus-lt pc 4)))
-  agree-word (access a) pc w p x k s lw h f = calling forAccess w pc x s h
-  agree-word (unmodelled o) pc w p x k s lw h f = not-taken pc w x s h
-  agree-word other pc w p x k s lw h f = not-taken pc w x s h
+
+  agree-word : (i : Instruction) → WordAgrees i
+  unfolding emit does
+  agree-word (op o) = agree-op o
+  agree-word (opImm o) = agree-op-imm o
+  agree-word LUI = agree-lui
+  agree-word AUIPC = agree-auipc
+  agree-word FENCE = λ pc w p x k s lw h f. then [] p (k x) s fit-nil (unfold run in f x s h)
+  agree-word FENCE·I = λ pc w p x k s lw h f. stopping _ x _ s fit-nil (unfold run in h)
+  agree-word (branch c) = agree-branch c
+  agree-word JAL = agree-jal
+  agree-word JALR = agree-jalr
+  agree-word (access a) = λ pc w p x k s lw h f. calling forAccess w pc x s h
+  agree-word (unmodelled o) = λ pc w p x k s lw h f. not-taken pc w x s h
+  agree-word other = λ pc w p x k s lw h f. not-taken pc w x s h
 
   pub agree : (n pc : ℕ) (hs : List ℕ) (x : Registers) (s : State) → Halfwords hs → Slots b x s → Agree (walk n pc hs) (reading n pc hs x) s
   unfolding walk reading Halfwords
