@@ -1,4 +1,5 @@
 pub mod Tests
+pub mod Bytes
 pub mod Values
 pub mod Width
 pub mod Signed

@@ -1,3 +1,3 @@
 pub mod WriteLaws
-pub mod Halves
+pub mod QuotientLaws
 pub mod Rex

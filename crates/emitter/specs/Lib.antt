@@ -1,3 +1,4 @@
 pub mod Written
+pub mod Quotient
 pub mod Forms
 pub mod Shapes

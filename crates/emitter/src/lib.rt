@@ -114,13 +114,21 @@ impl X64Emitter {
         c.emit_u8(out, (v / 256 / 256 / 256 % 256) as u8)
     }
 
-    // The low half, then the high half.
+    // Least significant byte first (Intel SDM volume 1, "Bit and Byte Order"), one division a byte: after k bytes the quotient is
+    // v / 256 ^ k. This is proved, as the loop's invariant: `Emitting` in specs/Quotient.
     fn emit_u64(self, out: &mut [u8], v: u64) -> X64Emitter
         requires { ⌜ Room (now out) (self .at) (length (bytesOf 8 v)) ⌝ }
         ensures { λ r. ⌜ Wrote (now (out .entry)) (self .at) (bytesOf 8 v) (now (out .exit)) (r .at) ⌝ }
     {
-        let a = self.emit_u32(out, (v % 0x1_0000_0000) as u32);
-        a.emit_u32(out, (v / 0x1_0000_0000) as u32)
+        let mut emitter = self;
+        let mut quotient = v;
+        let mut k = 0usize;
+        while k < 8 {
+            emitter = emitter.emit_u8(out, (quotient % 256) as u8);
+            quotient /= 256;
+            k += 1;
+        }
+        emitter
     }
 
     // A bare 0x40 is left out.

@@ -17,7 +17,8 @@ use Rattle.agreement.specs.X86.Memory.{Memory, at, bytesOf, up}
 use Rattle.agreement.specs.X86.State.{Flags, Permissions, State}
 use Rattle.agreement.specs.X86.Step.{Fetch, all, cut, did, fetched, next, past, step}
 use Rattle.agreement.proofs.Codec.Decoding.{round}
-use Rattle.agreement.proofs.Host.Memory.{len-le, up-at}
+use Rattle.agreement.proofs.Host.Memory.{up-at}
+use Rattle.agreement.proofs.Laws.Bytes.{len-le}
 
 -- the bytes bs stand at a and may be fetched
 unfoldable pub Holds : (ℕ → Bool) → Memory → ℕ → List ℕ → Type 0

@@ -6,8 +6,7 @@ use native.Mathlib.Nat.{pow-suc, pow-zero}
 use native.Mathlib.Omega.{arith}
 use lib.Arith.{mod-mul}
 use lib.IntN.{ℤ.pos}
-use lib.ListN.{length}
-use Rattle.agreement.specs.X86.Memory.{Memory, at, bytesOf, put, read, up, write}
+use Rattle.agreement.specs.X86.Memory.{Memory, at, put, read, up, write}
 use Rattle.agreement.proofs.Laws.Tests.{eqb-no, eqb-yes}
 
 pub put-same : (m : Memory) (a v : ℕ) → put m a v a ≡ v
@@ -73,10 +72,6 @@ read-write (suc n) m a v b h =
 pub read-other : (n k : ℕ) (m : Memory) (a v x : ℕ) → a < 2 ^ 64 → x < 2 ^ 64
     → ((i j : ℕ) → i < k → j < n → at x i ≢ at a j) → read k (write n m a v) x ≡ read k m x
 read-other n k m a v x b c h = read-ext k (write n m a v) m x c (λ i l. write-out n m a v (at x i) b (λ j l′. h i j l l′))
-
-pub len-le : (n v : ℕ) → length (bytesOf n v) ≡ n
-len-le zero v = refl
-len-le (suc n) v = ap suc (len-le n (v / 256))
 
 pub slot-same : (b r v : ℕ) (m : Memory) → b + 256 ≤ 2 ^ 64 → r < 32 → v < 2 ^ 64 → read 8 (write 8 m (b + 8 * r) v) (b + 8 * r) ≡ v
 slot-same b r v m f l h = rw (read-write 8 m (b + 8 * r) v (omega arith) (omega arith)) (omega arith)
