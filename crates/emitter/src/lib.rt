@@ -115,7 +115,7 @@ impl X64Emitter {
     }
 
     // Least significant byte first (Intel SDM volume 1, "Bit and Byte Order"), one division a byte: after k bytes the quotient is
-    // v / 256 ^ k. This is proved, as the loop's invariant: `Emitting` in specs/Quotient.
+    // v / 256 ^ k. This is proved, as the loop's invariant: `RunningQuotient` in specs/Quotient.
     fn emit_u64(self, out: &mut [u8], v: u64) -> X64Emitter
         requires { ⌜ Room (now out) (self .at) (length (bytesOf 8 v)) ⌝ }
         ensures { λ r. ⌜ Wrote (now (out .entry)) (self .at) (bytesOf 8 v) (now (out .exit)) (r .at) ⌝ }

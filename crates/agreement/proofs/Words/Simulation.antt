@@ -140,13 +140,13 @@ module _ (undefined : State → Flags) (b : ℕ) (fits : b + 256 ≤ 2 ^ 64) whe
   then : (is : List Instr) (p : Walked) (r : Read) (s : State) → Fit is → Agree p r (run undefined is s) → Agree (before is p) (oneMore r) s
   then is p r s f a = along is p r s (run undefined is s) (length is) (leads-straight undefined is s f) a
 
-  -- what is shown of an instruction; f goes on with what follows
+  -- what is shown of an instruction; the last premise goes on with what follows it
   abbrev WordAgrees : Instruction → Type 0
   WordAgrees i =
       (pc w : ℕ) (p : Walked) (x : Registers) (k : Registers → Read) (s : State) → w < 2 ^ 32 → Slots b x s
       → ((x : Registers) (s : State) → Slots b x s → Agree p (k x) s) → Agree (emit i pc w p) (does i pc w x k) s
 
-  -- one lemma per instruction or family
+  -- one lemma per instruction or family; where the proof is one line it stands in `agree-word`
   agree-op : (o : Op) → WordAgrees (op o)
   unfolding emit does
   agree-op o pc w p x k s lw h f = rw (rd-is w, rs1-is w, rs2-is w)
