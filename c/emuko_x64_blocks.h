@@ -1,7 +1,7 @@
 /* Blocks of x86-64 code for runs of RV64 words: the functions of the archive that `rt staticlib capi` writes to
  * target/staticlib/libcapi.a, for C and C++ on x86-64 Linux. Their contracts stand in crates/capi/src/lib.rt.
  *
- * No function keeps a pointer. A pointer whose length is 0 is not read. What is lent to be written must not overlap what is read. */
+ * No function keeps a pointer. A pointer whose length is 0 is not read. What is lent to be written must not overlap anything else that is lent. */
 #ifndef EMUKO_X64_BLOCKS_H
 #define EMUKO_X64_BLOCKS_H
 
@@ -54,6 +54,49 @@ emuko_reply emuko_translate(uint64_t start, uint32_t limit, const uint16_t *half
  *     6                the mark lies beyond the store's end
  *     7                the store has no room for the code */
 emuko_reply emuko_place(const uint8_t *code, size_t code_len, uint8_t *store, size_t store_len, size_t used);
+
+/* Where a block stands in a store, and how many guest instructions it has. An index keeps both as they are given. */
+typedef struct {
+    size_t offset;
+    uint32_t count;
+} emuko_native_block;
+
+/* An entry of an index of blocks: the key (the guest's address-space register and the start pc), the block, and the mark, which is 0 where
+ * the entry is not in use and anything else where it is. An index is an array of entries; one of zeros has none in use.
+ *
+ * In an array that began with none in use and that only emuko_index_insert and emuko_index_empty wrote, emuko_index_find shows for each
+ * key the block last inserted for it since it was last freed, or none. In one that was filled otherwise a key may stand in two entries
+ * in use: the first counts. */
+typedef struct {
+    uint64_t satp;
+    uint64_t pc;
+    emuko_native_block block;
+    uint32_t in_use;
+} emuko_entry;
+
+/* The record of a store: its mark, which emuko_place takes as `used` and gives anew as its second value. */
+typedef struct {
+    size_t used;
+} emuko_code_cache;
+
+/* The first entry in use that has the key; where there is none, an entry of zeros, so that in_use tells. It looks at one entry after the
+ * other. */
+emuko_entry emuko_index_find(const emuko_entry *entries, size_t entries_len, uint64_t satp, uint64_t pc);
+
+/* Puts a block under its key. The first entry in use that has the key is written over, all but its mark; a new key takes the first entry
+ * not in use, whose mark becomes 1. All other entries are as before.
+ *
+ *     0 index          inserted; the entry's index
+ *     8                the key is new and every entry is in use, or there are none; all entries are as before
+ *
+ * Placing and inserting are two calls: where an 8 follows a placing, the store's mark has moved. The block stands there and will not be
+ * found; a caller can empty both, place it again and insert it. */
+emuko_reply emuko_index_insert(emuko_entry *entries, size_t entries_len, uint64_t satp, uint64_t pc, emuko_native_block block);
+
+/* Empties the index and the store that its blocks stand in: every in_use and cache->used become 0. Keys and blocks stay readable in the
+ * entries, and the store's bytes stay; what is placed next is written over them, so no block of before may be entered from then on. `cache`
+ * is not NULL, also where there are no entries. */
+void emuko_index_empty(emuko_entry *entries, size_t entries_len, emuko_code_cache *cache);
 
 /* What a block, or a helper, returns. */
 typedef struct {

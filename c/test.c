@@ -1,4 +1,4 @@
-/* The header and the archive from C: a run is fetched as far as it is needed, translated, placed and entered.
+/* The header and the archive from C: a run is fetched as far as it is needed, translated, placed and entered, and its block is found again.
  *
  *     rt staticlib capi
  *     cc -std=c11 -Wall -Wextra -Werror -pedantic c/test.c target/staticlib/libcapi.a -o target/c-test && target/c-test
@@ -79,7 +79,7 @@ static void kinds(void) {
 
 static uint8_t out[EMUKO_GREATEST_BLOCK];
 
-/* A block that ends behind FENCE.I, and every refusal; then a load's block, translated, placed and entered. */
+/* A block that ends behind FENCE.I, and every refusal; then a load's block, translated, placed, inserted, found and entered. */
 static void with_a_helper(uint8_t *store, size_t size) {
     size_t length = needed(code, sizeof code / sizeof code[0], 64);
     CHECK(length == 6);
@@ -99,8 +99,14 @@ static void with_a_helper(uint8_t *store, size_t size) {
     CHECK(placed.number == 0 && placed.first == 8 && placed.second == 8 + reply.first);
     CHECK(emuko_place(out, reply.first, store, size, size + 1).number == 6);
     CHECK(emuko_place(out, reply.first, store, size, size).number == 7);
+
+    emuko_entry entries[4] = {0};
+    emuko_native_block block = {placed.first, (uint32_t)reply.second};
+    CHECK(emuko_index_insert(entries, 4, 0, START, block).number == 0);
+    emuko_entry found = emuko_index_find(entries, 4, 0, START);
+    CHECK(found.in_use && found.block.count == 3);
     uint64_t regs[32] = {0};
-    emuko_result result = entry(store, placed.first)(regs, regs, &regs[30], &regs[31], NULL, NULL);
+    emuko_result result = entry(store, found.block.offset)(regs, regs, &regs[30], &regs[31], NULL, NULL);
     CHECK(result.next_pc == START + 12 && result.executed == 3);
     CHECK(regs[0] == 0 && regs[1] == 5 && regs[2] == 10 && regs[3] == 1005 && regs[4] == 0);
 }
@@ -126,13 +132,82 @@ static void dividing(uint8_t *store, size_t size) {
     }
 }
 
+_Static_assert(sizeof(emuko_native_block) == 16 && offsetof(emuko_native_block, count) == 8, "a block of the index");
+_Static_assert(sizeof(emuko_entry) == 40 && offsetof(emuko_entry, pc) == 8 && offsetof(emuko_entry, block) == 16
+               && offsetof(emuko_entry, in_use) == 32, "an entry of the index");
+
+/* Whether find shows this block under the key. */
+static int shows(const emuko_entry *entries, size_t length, uint64_t satp, uint64_t pc, emuko_native_block block) {
+    emuko_entry e = emuko_index_find(entries, length, satp, pc);
+    return e.in_use && e.satp == satp && e.pc == pc && e.block.offset == block.offset && e.block.count == block.count;
+}
+
+/* Whether find shows nothing: an entry of zeros. */
+static int none(const emuko_entry *entries, size_t length, uint64_t satp, uint64_t pc) {
+    emuko_entry e = emuko_index_find(entries, length, satp, pc);
+    return !e.in_use && !e.satp && !e.pc && !e.block.offset && !e.block.count;
+}
+
+/* Keys inserted, found, replaced and refused; then the index and the store's mark are emptied. */
+static void indexing(void) {
+    const uint64_t satp = (uint64_t)8 << 60 | 0x80001;
+    const emuko_native_block a = {8, 3}, b = {(size_t)1 << 40, 64}, c = {132, 1};
+    emuko_entry entries[2] = {0};
+    CHECK(none(entries, 2, satp, START));
+    emuko_reply reply = emuko_index_insert(entries, 2, satp, START, a);
+    CHECK(reply.number == 0 && reply.first == 0 && reply.second == 0);
+    reply = emuko_index_insert(entries, 2, satp, START + 4, b);
+    CHECK(reply.number == 0 && reply.first == 1 && reply.second == 0 && entries[1].in_use == 1);
+    CHECK(shows(entries, 2, satp, START, a) && shows(entries, 2, satp, START + 4, b));
+    CHECK(none(entries, 2, 0, START) && none(entries, 2, satp, START + 8) && none(entries, 1, satp, START + 4));
+
+    /* All are in use: a new key is refused, and one that is there replaced. */
+    reply = emuko_index_insert(entries, 2, 0, START, c);
+    CHECK(reply.number == 8 && reply.first == 0 && reply.second == 0);
+    CHECK(shows(entries, 2, satp, START, a) && shows(entries, 2, satp, START + 4, b));
+    reply = emuko_index_insert(entries, 2, satp, START + 4, c);
+    CHECK(reply.number == 0 && reply.first == 1 && shows(entries, 2, satp, START + 4, c));
+
+    emuko_code_cache cache = {4000};
+    emuko_index_empty(entries, 2, &cache);
+    CHECK(cache.used == 0 && !entries[0].in_use && !entries[1].in_use);
+    CHECK(none(entries, 2, satp, START) && none(entries, 2, satp, START + 4));
+    CHECK(entries[1].satp == satp && entries[1].pc == START + 4 && entries[1].block.offset == 132 && entries[1].block.count == 1);
+    /* An index of no entries. */
+    CHECK(none(NULL, 0, satp, START) && emuko_index_insert(NULL, 0, satp, START, a).number == 8);
+}
+
+/* Marks as C may write them: one byte of them 255, the first or the last, and all four. */
+static void marks(void) {
+    const emuko_native_block a = {8, 3}, b = {64, 5};
+    for (size_t k = 0; k < 3; k++) {
+        emuko_entry entries[3] = {0};
+        entries[2].pc = START;
+        uint8_t *mark = (uint8_t *)&entries[2].in_use;
+        memset(k == 1 ? mark + 3 : mark, 255, k == 2 ? 4 : 1);
+        const uint32_t written = entries[2].in_use;
+        CHECK(shows(entries, 3, 0, START, (emuko_native_block){0, 0}));
+        /* The key is replaced where it stands, although others are free, and the mark stays. */
+        CHECK(emuko_index_insert(entries, 3, 0, START, a).first == 2);
+        CHECK(entries[2].in_use == written && shows(entries, 3, 0, START, a));
+        CHECK(emuko_index_insert(entries, 3, 1, START, b).first == 0);
+        CHECK(emuko_index_insert(entries, 3, 2, START, b).first == 1);
+        CHECK(emuko_index_insert(entries, 3, 3, START, b).number == 8);
+        emuko_code_cache cache = {1};
+        emuko_index_empty(entries, 3, &cache);
+        CHECK(entries[2].in_use == 0 && cache.used == 0);
+    }
+}
+
 int main(void) {
     kinds();
+    indexing();
+    marks();
     size_t size = 8192;
     uint8_t *store = mmap(NULL, size, PROT_READ | PROT_WRITE | PROT_EXEC, MAP_PRIVATE | MAP_ANONYMOUS, -1, 0);
     CHECK(store != MAP_FAILED);
     with_a_helper(store, size);
     dividing(store, size);
-    puts("c/test.c: blocks were translated, placed and entered");
+    puts("c/test.c: blocks were translated, placed and entered, and found again");
     return 0;
 }

@@ -29,7 +29,7 @@ ARCHIVE = os.path.join(ROOT, "target", "staticlib", "libcapi.a")
 NOBODY = 65534
 
 # Quick and sharp ones first: the first failure is enough.
-PARTS = ["cases", "every_", "placing", "sorts", "entered", "random_requests", "kinds"]
+PARTS = ["cases", "every_", "placing", "index", "buckets", "sorts", "entered", "random_requests", "kinds"]
 
 # Changes that no caller can see, read one by one: function, place of the byte, bit; the instruction as objdump has it without addresses,
 # and why. Where the compiler writes other code, an entry fits no more, and what is then not noticed has to be read anew.

@@ -20,6 +20,8 @@ a block they stand, the original says too: a word begins where the block of the 
 
 Number 5, which the original has not, goes by 4,099 bytes (Q-2; 2,243 before).
 
+Lines to the index of blocks (Q-4), in whose place the original has a map, are answered by index.py.
+
 Lines that are no request are not asked: replay answers them by itself.
 """
 import os
@@ -27,6 +29,7 @@ import re
 import subprocess
 import sys
 
+import index
 import muldiv
 
 ROOT = os.path.dirname(os.path.dirname(os.path.abspath(__file__)))
@@ -187,7 +190,8 @@ def replies_to(oracle, lines):
     """The reply to each line, and the differences that Q-2 has made."""
     asked = [k for k, line in enumerate(lines) if is_request(line)]
     others = [k for k in asked if not lines[k].startswith("T ")]
-    replies = [BAD] * len(lines)
+    judges = index.Judges()
+    replies = [judges.reply(line) if line.startswith("I ") else BAD for line in lines]
     for k, reply in zip(others, answered(oracle, [lines[k] for k in others])):
         replies[k] = reply
     runs = [k for k in asked if lines[k].startswith("T ")]

@@ -1,11 +1,20 @@
 //! The archive's functions as its crate capi has them: slices as pointer and length. c/emuko_x64_blocks.h says the same to C.
 
+use crate::{Entry, NativeBlock};
+
 /// A number and its values, 0 where there are none: document 01, "Replies".
 #[repr(C)]
 pub(crate) struct Reply {
     pub(crate) number: u64,
     pub(crate) first: u64,
     pub(crate) second: u64,
+}
+
+/// The code store's record: how much of the store is in use. It is lent to the emptying of an index.
+#[repr(C)]
+#[derive(Clone, Debug)]
+pub(crate) struct CodeCache {
+    pub(crate) used: usize,
 }
 
 extern "C" {
@@ -27,4 +36,18 @@ extern "C" {
         store_len: usize,
         used: usize,
     ) -> Reply;
+    pub(crate) fn emuko_index_find(
+        entries: *const Entry,
+        entries_len: usize,
+        satp: u64,
+        pc: u64,
+    ) -> Entry;
+    pub(crate) fn emuko_index_insert(
+        entries: *mut Entry,
+        entries_len: usize,
+        satp: u64,
+        pc: u64,
+        block: NativeBlock,
+    ) -> Reply;
+    pub(crate) fn emuko_index_empty(entries: *mut Entry, entries_len: usize, cache: *mut CodeCache);
 }

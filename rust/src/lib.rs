@@ -1,7 +1,7 @@
 //! Blocks of x86-64 code for runs of RV64 words.
 //!
 //! The translator is emuko's, ported to Rattle and proved there; this crate builds it (`rt staticlib capi` at the repository's root),
-//! links it and wraps its functions. It adds nothing to what they do.
+//! links it and wraps its functions. It adds nothing to what they do, but that [`BucketIndex`] picks by a hash which entries it lends.
 //!
 //! ```
 //! use emuko_x64_blocks::{translate, Request, GREATEST_BLOCK};
@@ -16,10 +16,69 @@
 //! ```
 //!
 //! Where fetching has effects of its own, as under page tables, [`Run::fetch`] fetches just what a translation needs. [`CodeStore`]
-//! keeps blocks one behind the other, and [`block_fn`] makes a function of one.
+//! keeps blocks one behind the other, [`BlockIndex`] finds them again, and [`block_fn`] makes a function of one.
 //!
 //! Multiplication and division (M) are in line. A zero divisor and the signed overflow give the RISC-V manual's values, and never the
 //! host's fault.
+//!
+//! # Blocks found again
+//!
+//! A guest's loops come back to the same addresses. An index, [`BlockIndex`] or for many blocks [`BucketIndex`], keeps where the block for
+//! an address space (`satp`) and a pc stands in the store. A turn looks there first; a block that is not found is translated, placed and
+//! inserted. Where the store has no room (7) or the index has no entry left (8), both are emptied, in one call, and filled anew. A block
+//! that was placed before an 8 is then placed again, since emptying gives up its place as well:
+//!
+//! ```
+//! use emuko_x64_blocks::{translate, Block, BlockIndex, CodeStore, Entry, NativeBlock, Request, GREATEST_BLOCK};
+//! use std::error::Error;
+//!
+//! struct Kept {
+//!     store: CodeStore<Vec<u8>>,
+//!     index: BlockIndex<Vec<Entry>>,
+//! }
+//!
+//! impl Kept {
+//!     fn keep(&mut self, satp: u64, pc: u64, block: &Block) -> Result<NativeBlock, Box<dyn Error>> {
+//!         let offset = self.store.place(block.bytes())?.offset;
+//!         let block = NativeBlock { offset, count: block.count() };
+//!         self.index.insert(satp, pc, block)?;
+//!         Ok(block)
+//!     }
+//! }
+//!
+//! let mut kept = Kept {
+//!     store: CodeStore::new(vec![0; 1 << 16]),
+//!     index: BlockIndex::new(vec![Entry::default(); 2]),
+//! };
+//! let mut out = [0; GREATEST_BLOCK];
+//! let mut translations = 0;
+//! // ADDI x1, x1, 1; JAL x0, -4: a loop. It runs a thousand turns at each of three places, and there are two entries.
+//! let run = [0x8093, 0x0010, 0xF06F, 0xFFDF];
+//! for pc in [0x8000_0000, 0x8000_0100, 0x8000_0200] {
+//!     for _ in 0..1000 {
+//!         let satp = 0;
+//!         let block = match kept.index.find(satp, pc) {
+//!             Some(entry) => entry.block,
+//!             None => {
+//!                 translations += 1;
+//!                 let block = translate(&Request::new(pc, &run), &mut out)?;
+//!                 match kept.keep(satp, pc, &block) {
+//!                     Ok(block) => block,
+//!                     Err(_) => {
+//!                         kept.index.empty(&mut kept.store);
+//!                         kept.keep(satp, pc, &block)?
+//!                     }
+//!                 }
+//!             }
+//!         };
+//!         // Here the block is entered, at this offset of the store; it returns the next pc.
+//!         assert_eq!(block.count, 2);
+//!     }
+//! }
+//! assert_eq!(translations, 3);
+//! assert_eq!(kept.index.find(0, 0x8000_0000), None); // gone with the emptying
+//! # Ok::<(), Box<dyn Error>>(())
+//! ```
 //!
 //! # Code that changes
 //!
@@ -29,8 +88,8 @@
 //!
 //! FENCE.I is where a guest asks that its stores be seen by later fetches. It ends its block, so that a caller comes back to its own loop
 //! before anything behind it is translated or entered: [`BlockResult::next_pc`] is then the address behind it, and [`Run::fetch`] has
-//! fetched nothing from there. Whoever keeps blocks either drops each when a store reaches its halfwords, or drops all of them behind
-//! every FENCE.I, at the latest before the next block is entered, and translates what is entered anew:
+//! fetched nothing from there. Whoever keeps blocks either drops each when a store reaches its halfwords, or drops all of them
+//! ([`BlockIndex::empty`]) behind every FENCE.I, at the latest before the next block is entered, and translates what is entered anew:
 //!
 //! ```
 //! use emuko_x64_blocks::{translate, Request, GREATEST_BLOCK};
@@ -58,12 +117,16 @@
 #![warn(missing_docs)]
 
 mod archive;
+mod buckets;
 mod entry;
+mod index;
 mod placing;
 mod run;
 mod translation;
 
+pub use buckets::BucketIndex;
 pub use entry::{block_fn, BlockFn, BlockResult, HelperFn, Helpers};
+pub use index::{BlockIndex, Entry, InsertRefusal, NativeBlock};
 pub use placing::{place, CodeStore, PlaceRefusal, Placed};
 pub use run::{word_kind, Run, WordKind};
 pub use translation::{translate, Block, Refusal, Request};

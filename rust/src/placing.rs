@@ -107,20 +107,24 @@ pub fn place(code: &[u8], store: &mut [u8], used: usize) -> Result<Placed, Place
 #[derive(Clone, Debug)]
 pub struct CodeStore<S> {
     bytes: S,
-    mark: usize,
+    /// The mark, in the record that emptying an index is lent.
+    pub(crate) record: archive::CodeCache,
 }
 
 impl<S: AsRef<[u8]> + AsMut<[u8]>> CodeStore<S> {
     /// A store with nothing placed in it.
     #[must_use]
     pub fn new(bytes: S) -> Self {
-        CodeStore { bytes, mark: 0 }
+        CodeStore::with_mark(bytes, 0)
     }
 
     /// A store that is in use up to the mark. A mark beyond the store is refused when code is placed.
     #[must_use]
     pub fn with_mark(bytes: S, mark: usize) -> Self {
-        CodeStore { bytes, mark }
+        CodeStore {
+            bytes,
+            record: archive::CodeCache { used: mark },
+        }
     }
 
     /// Copies the code into the store and moves the mark behind it.
@@ -129,20 +133,21 @@ impl<S: AsRef<[u8]> + AsMut<[u8]>> CodeStore<S> {
     ///
     /// As [`place`]; store and mark are then as before.
     pub fn place(&mut self, code: &[u8]) -> Result<Placed, PlaceRefusal> {
-        let placed = place(code, self.bytes.as_mut(), self.mark)?;
-        self.mark = placed.mark;
+        let placed = place(code, self.bytes.as_mut(), self.record.used)?;
+        self.record.used = placed.mark;
         Ok(placed)
     }
 
-    /// Sets the mark to 0; the bytes stay as they are.
+    /// Sets the mark to 0; the bytes stay as they are. An index of blocks in this store still shows them then:
+    /// [`BlockIndex::empty`](crate::BlockIndex::empty) empties both.
     pub fn clear(&mut self) {
-        self.mark = 0;
+        self.record.used = 0;
     }
 
     /// The end of what is in use.
     #[must_use]
     pub fn mark(&self) -> usize {
-        self.mark
+        self.record.used
     }
 
     /// All bytes of the store.

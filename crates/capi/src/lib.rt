@@ -4,7 +4,9 @@ ghost use Rattle.agreement.specs.Translation.Kind.{kind, kindNumber};
 ghost use Rattle.block.specs.Answers as Answers;
 ghost use Rattle.kind.specs.Numbered as Numbered;
 ghost use Rattle.store.specs.Places as Places;
+ghost use Rattle.index.specs.Answers as Indexed;
 ghost use Rattle.capi.specs.Replies.{padded, Replies, RepliesToPlacing};
+ghost use Rattle.capi.specs.Indexes.{told, RepliesToFind, RepliesToInsert};
 
 // Document 01, "Replies": the number, 0 where there is none, and its values, 0 where there are fewer.
 #[repr(C)]
@@ -91,4 +93,56 @@ pub extern "C" fn emuko_word_kind(instr: u32) -> u32
     ensures { λ r. ⌜ r ≡ kindNumber (kind instr) ⌝ }
 {
     number_of_kind(kind::word_kind(instr))
+}
+
+fn reply_to_find(found: index::Found) -> entry::Entry
+    ensures { λ r. ⌜ r ≡ told (Indexed.shown found) ⌝ }
+{
+    match found {
+        index::Found::Shown { entry } => entry,
+        index::Found::Nothing => entry::blank(),
+    }
+}
+
+// The entry in use that has the key; where there is none, an entry of zeros, which is not in use.
+#[no_mangle]
+pub extern "C" fn emuko_index_find(entries: &[entry::Entry], satp: u64, pc: u64) -> entry::Entry
+    ensures { λ r. ⌜ RepliesToFind (now (entries .entry)) satp pc r ⌝ }
+{
+    let found = index::find(entries, satp, pc);
+    reply_to_find(found)
+}
+
+fn reply_to_inserting(inserting: index::Inserting) -> Reply
+    ensures { λ r. ⌜ r ≡ padded (Indexed.numbered inserting) ⌝ }
+{
+    match inserting {
+        index::Inserting::At { index } => numbers(0, index as u64, 0),
+        index::Inserting::Full => numbers(8, 0, 0),
+    }
+}
+
+// inserted: index; 8
+#[no_mangle]
+pub extern "C" fn emuko_index_insert(
+    entries: &mut [entry::Entry],
+    satp: u64,
+    pc: u64,
+    block: entry::NativeBlock,
+) -> Reply
+    ensures { λ r. ⌜ RepliesToInsert (now (entries .entry)) (now (entries .exit)) satp pc block r ⌝ }
+{
+    let inserting = index::insert(entries, satp, pc, block);
+    reply_to_inserting(inserting)
+}
+
+// Every mark is cleared, and the store's mark returns to 0.
+#[no_mangle]
+pub extern "C" fn emuko_index_empty(
+    entries: &mut [entry::Entry],
+    cache: &mut store::NativeCodeCache,
+)
+    ensures { λ _. ⌜ Indexed.Empties (now (entries .entry)) (now (entries .exit)) (now (cache .exit) .used) ⌝ }
+{
+    index::empty(entries, cache);
 }

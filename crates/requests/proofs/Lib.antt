@@ -1,4 +1,5 @@
 pub mod DigitLaws
 pub mod HalfwordLaws
+pub mod IndexingLaws
 pub mod LineLaws
 pub mod PatternLaws

@@ -1,4 +1,5 @@
 pub mod Fields
 pub mod Halfwords
+pub mod Indexing
 pub mod Lines
 pub mod Pattern

@@ -2,12 +2,15 @@
 mod decoding;
 mod fields;
 mod halfwords;
+mod indexing;
 mod pattern;
 mod placing;
 mod translation;
 
 pub use decoding::Decoding;
 pub use decoding::read_decoding;
+pub use indexing::Indexing;
+pub use indexing::read_indexing;
 pub use pattern::fill;
 pub use pattern::is_untouched;
 pub use placing::Placing;

@@ -13,6 +13,7 @@ pub enum Placing {
 }
 
 // The record of the store: how much of it is used. The store's bytes are lent beside it.
+#[repr(C)]
 pub struct NativeCodeCache {
     pub used: usize,
 }

@@ -1,7 +1,9 @@
-//! This crate and the original Rust side by side: time, stack, code size; and blocks beside what rustc makes of the same operations.
+//! This crate and the original Rust side by side: time, stack, code size; blocks beside what rustc makes of the same operations; an index
+//! of blocks beside a map.
 //! `cargo bench --offline`; docs/PERFORMANCE.md says what is compared with what.
 
 mod entering;
+mod index;
 mod linked;
 #[allow(dead_code)]
 #[path = "../../tests/suite/random.rs"]
@@ -19,6 +21,7 @@ fn main() {
     translating::rows();
     linked::rows();
     entering::rows();
+    index::rows();
     stack::rows();
     size::rows();
 }

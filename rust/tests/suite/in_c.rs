@@ -1,5 +1,8 @@
-//! The C header: c/test.c is compiled, linked with the archive and run.
+//! The C header: c/test.c is compiled, linked with the archive and run, and the header's numbers and records are the crate's.
 
+use crate::archive::{CodeCache, Reply};
+use emuko_x64_blocks::{BlockResult, Entry, NativeBlock};
+use std::mem::{align_of, offset_of, size_of};
 use std::path::Path;
 use std::process::Command;
 
@@ -26,7 +29,10 @@ fn translates_places_and_enters() {
                 .arg(&program),
         );
         let text = succeeds(&mut Command::new(&program));
-        assert!(text.contains("translated, placed and entered"), "{text}");
+        assert_eq!(
+            text,
+            "c/test.c: blocks were translated, placed and entered, and found again\n"
+        );
     }
 }
 
@@ -43,4 +49,49 @@ fn constants() {
         let line = format!("#define EMUKO_{name} {number}\n");
         assert!(header.contains(&line), "{line}");
     }
+}
+
+/// A line that a C compiler refuses where the number is another one.
+fn is(what: &str, number: usize) -> String {
+    format!("_Static_assert({what} == {number}, \"\");\n")
+}
+
+fn size_of_field<R, F>(_field: impl Fn(R) -> F) -> usize {
+    size_of::<F>()
+}
+
+/// Such lines for a record: its size and alignment, and each field's place and size.
+macro_rules! layout {
+    ($record:ident as $name:literal: $($field:ident)*) => {
+        [
+            is(concat!("sizeof(", $name, ")"), size_of::<$record>()),
+            is(concat!("_Alignof(", $name, ")"), align_of::<$record>()),
+            $(
+                is(concat!("offsetof(", $name, ", ", stringify!($field), ")"), offset_of!($record, $field)),
+                is(concat!("sizeof((", $name, "){0}.", stringify!($field), ")"), size_of_field(|r: $record| r.$field)),
+            )*
+        ]
+        .concat()
+    };
+}
+
+/// The header's records are laid out as the crate's.
+#[test]
+fn layouts() {
+    let text = [
+        String::from("#include \"emuko_x64_blocks.h\"\n"),
+        layout!(Reply as "emuko_reply": number first second),
+        layout!(BlockResult as "emuko_result": next_pc executed),
+        layout!(NativeBlock as "emuko_native_block": offset count),
+        layout!(Entry as "emuko_entry": satp pc block in_use),
+        layout!(CodeCache as "emuko_code_cache": used),
+    ];
+    let file = Path::new(env!("CARGO_TARGET_TMPDIR")).join("layouts.c");
+    std::fs::write(&file, text.concat()).unwrap();
+    let mut compiler = Command::new("cc");
+    succeeds(
+        compiler
+            .args(["-std=c11", "-fsyntax-only", "-I", C])
+            .arg(&file),
+    );
 }

@@ -1,5 +1,5 @@
--- The index stays within the text, and the line keeps its length.
-use Prim.Native.Nat.{_-_}
+-- The place stays within the text, the line keeps its length, and the index has 64 entries at most.
+use Prim.Native.Nat.{_-_, _≤_}
 use mathlib.Core.Path.{_≡_}
 use lib.ListN.{length}
 use borrow.Author.Needs.{needs}
@@ -7,10 +7,10 @@ use Rattle.replay.proofs.feed.Statement.{statement}
 use Rattle.replay.proofs.feed.Tie as tie
 
 abbrev Inv-loop : tie.InvT-loop
-Inv-loop text line₀ used n₀ i₀ i-end line n i = (i-end ≡ length text) × (length line ≡ length line₀)
+Inv-loop text line₀ s₀ i₀ i-end line s i = (i-end ≡ length text) × (length line ≡ length line₀) × (s .kept .n ≤ 64)
 
 abbrev μ-loop : tie.MeasureT-loop
-μ-loop text line₀ used n₀ i₀ i-end line n i = i-end - i
+μ-loop text line₀ s₀ i₀ i-end line s i = i-end - i
 
 pub feed-spec : {M : Type 1} → statement M
 feed-spec =

@@ -1,4 +1,5 @@
--- The buffers keep their lengths, and each read uses up one of those that are left.
+-- The buffers keep their lengths, the index has 64 entries at most, and each read uses up one of those that are left.
+use Prim.Native.Nat.{_≤_}
 use mathlib.Core.Path.{_≡_}
 use lib.ListN.{length}
 use borrow.Author.Needs.{needs}
@@ -6,10 +7,10 @@ use Rattle.replay.proofs.main.Statement.{statement}
 use Rattle.replay.proofs.main.Tie as tie
 
 abbrev Inv-loop : tie.InvT-loop
-Inv-loop buf₀ line₀ used₀ left₀ buf line used left = (65536 ≡ length buf) × (8192 ≡ length line)
+Inv-loop buf₀ line₀ state₀ left₀ buf line state left = (65536 ≡ length buf) × (8192 ≡ length line) × (state .kept .n ≤ 64)
 
 abbrev μ-loop : tie.MeasureT-loop
-μ-loop buf₀ line₀ used₀ left₀ buf line used left = left
+μ-loop buf₀ line₀ state₀ left₀ buf line state left = left
 
 pub main-spec : {M : Type 1} → statement M
 main-spec =
@@ -18,6 +19,7 @@ main-spec =
     Inv-loop
     μ-loop
     (λ c κs. search needs)
+    (λ c κs. search needs)
     (λ c. search needs)
     (λ c. search needs)
     (λ c κs. search needs)
@@ -26,12 +28,8 @@ main-spec =
     (λ c. search needs)
     (λ c. search needs)
     (λ c. search needs)
-    (λ c. search needs)
-    (λ c. search needs)
     (λ c κs. search needs)
-    (λ c. search needs)
-    (λ c. search needs)
-    (λ c. search needs)
+    (λ c κs. search needs)
     (λ c. search needs)
     (λ c. search needs)
     (λ c. search needs)

@@ -1,0 +1,4 @@
+pub mod Scans
+pub mod LastShown
+pub mod Refusing
+pub mod Cases
