@@ -56,6 +56,7 @@ HARMLESS = {
     ("emuko_place", 0x155, 3): ("test $0x1c,%dl", "F6 with the digit 1 is TEST too"),
     ("emuko_place", 0x103, 2): ("movzbl 0x3(%rsi,%r11,1),%r8d", OVERLAP),
     ("emuko_place", 0x10C, 4): ("add $0x4,%r11", OVERLAP),
+    ("emuko_place", 0x10E, 2): ("cmp %r11,%rdx", OVERLAP),
     ("emuko_place", 0x110, 0): ("cmp %r11,%rdx", OVERLAP),
     ("emuko_place", 0x114, 5): ("jmp emuko_place", OVERLAP),
 }
@@ -64,7 +65,7 @@ HARMLESS = {
 def harmless(name, place, bit, text, code, byte):
     """Why a change is known to be harmless, or nothing."""
     index = re.search(r"\([^()]*,[^()]*\)", text)
-    if text.startswith("nop"):
+    if re.match(r"((data16|cs) )*nop", text):
         return "padding"
     if not index and byte == 0 and code[0] >> 4 == 4 and bit == 1:
         return "REX.X, which extends an index register; there is none"
