@@ -173,6 +173,12 @@ static void indexing(void) {
     CHECK(cache.used == 0 && !entries[0].in_use && !entries[1].in_use);
     CHECK(none(entries, 2, satp, START) && none(entries, 2, satp, START + 4));
     CHECK(entries[1].satp == satp && entries[1].pc == START + 4 && entries[1].block.offset == 132 && entries[1].block.count == 1);
+    /* A key in two entries in use, as in an array filled elsewhere: the first counts, and the second shows once the first is freed. */
+    emuko_entry twice[3] = {{satp, START, a, 0}, {satp, START, b, 1}, {satp, START, c, 1}};
+    CHECK(shows(twice, 3, satp, START, b));
+    CHECK(emuko_index_insert(twice, 3, satp, START, a).first == 1 && shows(twice, 3, satp, START, a));
+    twice[1].in_use = 0;
+    CHECK(shows(twice, 3, satp, START, c));
     /* An index of no entries. */
     CHECK(none(NULL, 0, satp, START) && emuko_index_insert(NULL, 0, satp, START, a).number == 8);
 }
