@@ -1,4 +1,6 @@
 // `compile_native_block` of src/hart/jit_amd64.rs: a run of halfwords becomes a block at the front of a lent output.
+#![tactic(auto)]
+
 mod first;
 
 ghost use Rattle.std.specs.Prelude.{◌≡◌, min, ◌≤◌};

@@ -1,6 +1,8 @@
 // src/hart/decode.rs of the Rust: the fields of a 32-bit word, and its immediates.
 // An immediate is a u64 in two's complement where the Rust has an i64. A field is taken by a shift and a remainder
 // where the Rust has a shift and a mask, and fields are joined by sums where it has `|`: the same bits.
+#![tactic(auto)]
+
 pub mod isa;
 
 ghost use Rattle.std.specs.Prelude.{◌≡◌, ◌^◌, ◌<◌, ◌≤◌};

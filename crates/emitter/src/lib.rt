@@ -3,6 +3,8 @@
 // contract of each: the output at exit is the output at entry with exactly the bytes of the instruction (crate agreement,
 // X86/Encode) at the emitter's place, which moves behind them.
 // Immediates and displacements are unsigned in two's complement.
+#![tactic(auto)]
+
 mod forms;
 
 ghost use Rattle.std.specs.Prelude.{◌≡◌, true, false, cond, [], ◌∷◌, ◌+◌, ◌<◌, ◌≤◌, length};

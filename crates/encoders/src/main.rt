@@ -1,4 +1,6 @@
 // Writes one instruction of each host form, so that a disassembler can be held against the emitter: its compiled code runs here.
+#![tactic(auto)]
+
 ghost use Rattle.std.specs.Prelude.{◌≡◌, ◌+◌, ◌≤◌, length};
 ghost use Rattle.io.specs.Counts.{IsPrefixLen};
 

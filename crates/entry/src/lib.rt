@@ -1,4 +1,6 @@
 // An entry of the index of blocks (document 02, Q-4). What an index does with entries stands in specs/, apart from the code.
+#![tactic(auto)]
+
 ghost use Rattle.std.specs.Prelude.{◌≡◌};
 ghost use Rattle.entry.specs.Index as Index;
 

@@ -1,5 +1,7 @@
 // The index of blocks (document 02, Q-4): a caller lends a slice of entries. Functions over the slice are thin and call functions on
 // values.
+#![tactic(auto)]
+
 ghost use Rattle.std.specs.Prelude.{◌≡◌};
 ghost use Rattle.entry.specs.Index.{holds, before, taken, mark_of, renewed};
 ghost use Rattle.entry.specs.Index as Index;

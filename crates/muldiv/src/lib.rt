@@ -1,6 +1,8 @@
 // Upper halves of products, quotients and remainders of R10 and R11, into R10 (document 02, Q-2): what the words of F7_MULDIV need that
 // the Rust does not take. Where the host's division would fault the manual has a value: it is put into the result's register first,
 // and one test of the divisor jumps over the division or does not.
+#![tactic(auto)]
+
 ghost use Rattle.std.specs.Prelude.{◌++◌, ◌<◌};
 ghost use Rattle.agreement.specs.Riscv.Instruction.Op.{MULH, MULHSU, MULHU};
 ghost use Rattle.agreement.specs.X86.Form.{r32, r64};

@@ -23,6 +23,8 @@
 // 8,192 bytes, or asks for lent bytes of over 65,536, gets `bad request`, and the program goes on. Where lent bytes or a mark changed that
 // must not, or a cleared mark is not 0, `touched` is behind the reply. Each line is answered as it comes, so that another program can
 // ask and wait for the reply.
+#![tactic(auto)]
+
 mod decoding;
 mod indexing;
 mod placing;

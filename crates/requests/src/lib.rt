@@ -1,4 +1,6 @@
 // The lines that replay answers: what each asks for, and what the bytes that are lent to it are filled with.
+#![tactic(auto)]
+
 mod decoding;
 mod fields;
 mod halfwords;

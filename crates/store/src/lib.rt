@@ -1,4 +1,6 @@
 // `NativeCodeCache::alloc` and `clear` of src/hart.rs: where a block goes in the code store.
+#![tactic(auto)]
+
 ghost use Rattle.std.specs.Prelude.{◌≡◌, ◌++◌, ◌+◌, ◌≤◌, length, take, drop};
 ghost use Rattle.store.specs.Places.{Places, mark_of, Allocates};
 

@@ -1,5 +1,7 @@
 // An index of up to 64 entries that is held by value, for a program that keeps one between calls: the first n entries of the array are
 // lent to the index's functions.
+#![tactic(auto)]
+
 ghost use Rattle.std.specs.Prelude.{◌≤◌, take};
 ghost use Rattle.index.specs.Answers.{Finds, Inserts, Empties};
 ghost use Rattle.table.specs.Held.{AtFront};

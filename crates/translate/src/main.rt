@@ -1,5 +1,7 @@
 // Document 01's program: up to 256 bytes of code from standard input, a last odd byte dropped, are translated at 0x80000000 with
 // limit 64 and both helpers 0. The block's bytes go to standard output, or none when the translation is refused.
+#![tactic(auto)]
+
 ghost use Rattle.std.specs.Prelude.{◌≡◌, ◌+◌, ◌*◌, ◌≤◌, length, take};
 ghost use Rattle.io.specs.Counts.{IsPrefixLen};
 ghost use Rattle.translate.specs.Program.{halfwords_of, length_of, written};

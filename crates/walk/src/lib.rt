@@ -1,4 +1,6 @@
 // The loop of the Rust's `compile_native_block`: the fetch of an instruction, the words of a run, and a block's last instructions.
+#![tactic(auto)]
+
 pub mod close;
 pub mod fetch;
 pub mod walk;

@@ -1,4 +1,6 @@
 // `emit_native_instr_x64` of src/hart/jit_amd64.rs: a word of the run becomes host instructions in a lent output.
+#![tactic(auto)]
+
 mod frame;
 mod helper;
 mod jump;

@@ -81,6 +81,7 @@ Ends m ts P = (pc : ℕ) (rb : RegisterBytes) (es : List Event) (pc' : ℕ) (rb'
 pub ends_here : (m : GuestState) (P : List Event → GuestState → Type 0) → P [] m → Ends m [] P
 unfolding feeds manual
 ends_here m P p pc rb [] pc' rb' end a = p
+ends_here m P p pc rb (_ ∷ _) pc' rb' h a = elim h [ ]
 
 ends-after : (m n : GuestState) (t : Turn) (ts : List Turn) (P : List Event → GuestState → Type 0) (e : Event)
     → turn (feed t e) m ≡ n → Ends n ts (λ es. P (e ∷ es))
@@ -93,6 +94,7 @@ ends-after m n t ts P e z k pc rb es pc' rb' h a =
 pub ends-refused : (m : GuestState) (t : Turn) (ts : List Turn) (P : List Event → GuestState → Type 0) → is_refused t m ≡ true
     → ((e : Event) → At m t e → Ends m ts (λ es. P (e ∷ es))) → Ends m (t ∷ ts) P
 unfolding Along
+ends-refused m t ts P f k pc rb [] pc' rb' h a = elim h [ ]
 ends-refused m t ts P f k pc rb (e ∷ es) pc' rb' (then h hs) a =
     ends-after m m t ts P e (after-refused m t e f a.0) (k e a.0) _ _ es _ _ hs a.1
 
@@ -100,6 +102,7 @@ pub ends_plain : (m : GuestState) (t : Turn) (ts : List Turn) (P : List Event �
     → is_refused t m ≡ false → (read_as t m).stop ≡ plain
     → ((e : Event) → WentPlainly m t e → Ends (after_plain t m) ts (λ es. P (e ∷ es))) → Ends m (t ∷ ts) P
 unfolding Along
+ends_plain m t ts P f st k pc rb [] pc' rb' h a = elim h [ ]
 ends_plain m t ts P f st k pc rb (e ∷ es) pc' rb' (then h hs) a =
     let w = after_plain_lem m f st h a.0 in
     ends-after m (after_plain t m) t ts P e w.turned (k e w) _ _ es _ _ hs a.1
@@ -108,6 +111,7 @@ pub ends_helped : (m : GuestState) (t : Turn) (ts : List Turn) (P : List Event �
     → is_refused t m ≡ false → (read_as t m).stop ≡ called h i
     → ((e : Event) (w : WentHelped m t e) → Ends (after_helper t w.call.inside) ts (λ es. P (e ∷ es))) → Ends m (t ∷ ts) P
 unfolding Along
+ends_helped m t ts P h i f st k pc rb [] pc' rb' g a = elim g [ ]
 ends_helped m t ts P h i f st k pc rb (e ∷ es) pc' rb' (then g hs) a =
     let w = after_helper_lem m h i f st g a.0 in
     ends-after m (after_helper t w.call.inside) t ts P e w.turned (k e w) _ _ es _ _ hs a.1

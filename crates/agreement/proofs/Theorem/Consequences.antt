@@ -71,7 +71,7 @@ pub record WentPlainly (m : GuestState) (t : Turn) (e : Event) : Type 0 where
   pub was : WasEntered m t e
   pub says : Plain t was.b.count was.v (read_as t m)
 
-pub after_plain_lem : {pc pc' : ℕ} {rb rb' : RegisterBytes} {t : Turn} {e : Event} (m : GuestState)
+pub after_plain_lem : {pc pc' : ℕ} {rb : RegisterBytes} {t : Turn} {rb' : RegisterBytes} {e : Event} (m : GuestState)
     → is_refused t m ≡ false → (read_as t m).stop ≡ plain → Turned pc rb t e pc' rb' → At m t e → WentPlainly m t e
 unfolding At feed
 after_plain_lem m f st (skip e) a = absurd (true_not_false (sym a.refuses ∙ f))
@@ -111,7 +111,7 @@ pub record WentHelped (m : GuestState) (t : Turn) (e : Event) : Type 0 where
   pub was : WasEntered m t e
   pub says : Helped t was.b.count was.v call (read_as t m)
 
-pub after_helper_lem : {pc pc' : ℕ} {rb rb' : RegisterBytes} {t : Turn} {e : Event} (m : GuestState) (h : Helper) (i : ℕ)
+pub after_helper_lem : {pc pc' : ℕ} {rb : RegisterBytes} {t : Turn} {rb' : RegisterBytes} {e : Event} (m : GuestState) (h : Helper) (i : ℕ)
     → is_refused t m ≡ false → (read_as t m).stop ≡ called h i → Turned pc rb t e pc' rb' → At m t e → WentHelped m t e
 unfolding At feed
 after_helper_lem m h i f st (skip e) a = absurd (true_not_false (sym a.refuses ∙ f))

@@ -118,7 +118,7 @@ pub record SameTurn (e f : Event) (pc pc' : ℕ) (rb rb' : RegisterBytes) : Type
   pub pcs : pc ≡ pc'
   pub bytes : rb ≡ rb'
 
-pub turned_once : {pc pc' pc'' : ℕ} {rb rb' rb'' : RegisterBytes} {t : Turn} {e f : Event}
+pub turned_once : {pc pc' pc'' : ℕ} {rb : RegisterBytes} {t : Turn} {rb' rb'' : RegisterBytes} {e f : Event}
     → Turned pc rb t e pc' rb' → Turned pc rb t f pc'' rb'' → SameTurn e f pc' pc'' rb' rb''
 turned_once (skip {r = r} e) (skip {r = s} f) = let q = refusal_once r s (sym e ∙ f) in record { events = rw q; pcs = refl; bytes = refl }
 turned_once (skip {r = r} e) (visit {b = b} f w) = absurd (not_block b r (sym f ∙ e))
