@@ -10,7 +10,7 @@ ghost use Rattle.capi.specs.Indexes.{told, RepliesToFind, RepliesToInsert};
 
 // Document 01, "Replies": the number, 0 where there is none, and its values, 0 where there are fewer.
 #[repr(C)]
-#[derive(Drop)]
+#[derive(Clone, Copy)]
 pub struct Reply {
     pub number: u64,
     pub first: u64,
