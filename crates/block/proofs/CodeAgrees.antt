@@ -36,11 +36,11 @@ answers (refusal (not_taken word)) l = record { answers = refl; leaves = refl }
 answers (refusal output_short) l = record { answers = refl; leaves = refl }
 
 -- one turn
-turned : {pc pc' : ℕ} {rb rb' : RegisterBytes} {t : Turn} {e : Event} → Ran pc rb t e pc' rb' → Turned pc rb t e pc' rb'
+turned : {pc pc' : ℕ} {rb : RegisterBytes} {t : Turn} {rb' : RegisterBytes} {e : Event} → Ran pc rb t e pc' rb' → Turned pc rb t e pc' rb'
 turned {pc} {t = t} (Ran.skip {r} c e) = Turned.skip (sym (reads (reply t pc) r c) ∙ e)
 turned {pc} {t = t} (Ran.visit {r} c e w) = Turned.visit (sym (reads (reply t pc) r c) ∙ e) w
 
-ran : {pc pc' : ℕ} {rb rb' : RegisterBytes} {t : Turn} {e : Event} → Turned pc rb t e pc' rb' → Ran pc rb t e pc' rb'
+ran : {pc pc' : ℕ} {rb : RegisterBytes} {t : Turn} {rb' : RegisterBytes} {e : Event} → Turned pc rb t e pc' rb' → Ran pc rb t e pc' rb'
 ran {pc} {t = t} (Turned.skip e) =
     let c = answers (reply t pc) t.output in
     Ran.skip c (reads (reply t pc) (answer_to (reply t pc)) c ∙ e)
