@@ -7,12 +7,10 @@ use Rattle.agreement.specs.Translation.Replies.{Reply, numbered, output_after}
 use Rattle.agreement.specs.Translation.Replies.Reply.{block, refusal}
 use Rattle.agreement.specs.Translation.Replies.Refusal.{limit_zero, odd_start, missing, not_taken, output_short}
 use Rattle.agreement.specs.Statement.Machine.{RegisterBytes, Turn, Event, Turned, History, reply}
-use Rattle.agreement.specs.Statement.Machine.Turned.{skip, visit}
-use Rattle.agreement.specs.Statement.Machine.History.{end, then}
 use Rattle.agreement.proofs.Theorem.Agreement.{agreement}
 use Rattle.agreement.specs.Statement.Agreement.{Agreement, Agrees}
 use Rattle.block.specs.Answers.{Answers}
-use Rattle.block.specs.AgreementInCode.{Ran, Ran.skip, Ran.visit, Run, Run.end, Run.then, AgreementInCode}
+use Rattle.block.specs.AgreementInCode.{Ran, Run, AgreementInCode}
 use Rattle.block.specs.declared.Answer.{Answer}
 use Rattle.block.specs.declared.Answer.TheVariants.{Block, LimitZero, OddStart, Missing, NotTaken, OutputShort}
 use Rattle.block.proofs.CallerReadsReply.{reads}

@@ -26,6 +26,6 @@ returns-in-Untaken-clause-translates c =
 pub returns-else-out-lt-GREATEST : goal.returns-else-out-lt-GREATEST
 returns-else-out-lt-GREATEST c =
     let block = made c.args.start c.args.limit _ _ _ _ c.if-out-lt-GREATEST.false
-        (if_first _ _ _ _ _ _ c.if-limit-eq0.false c.if-start-eq1.false (sym c.in-Begins.ensures))
-        c.steps-n.ensures.0 c.compile_native_block-b.ensures in
+    (if_first _ _ _ _ _ _ c.if-limit-eq0.false c.if-start-eq1.false (sym c.in-Begins.ensures))
+    c.steps-n.ensures.0 c.compile_native_block-b.ensures in
     record { translates = block.0; fits = block.1 }

@@ -1,5 +1,5 @@
 -- A byte more, and a division more: the loop's laws stand in QuotientLaws.
-use Rattle.std.proofs.Common.{rules, refl}
+use Rattle.std.proofs.Common.{refl}
 use Rattle.emitter.proofs.QuotientLaws.{none_emitted, room_left, one_more, all_emitted}
 use Rattle.emitter.proofs.X64Emitter.emit_u64.Goals as goal
 
