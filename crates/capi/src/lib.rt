@@ -1,4 +1,6 @@
 // The translator as functions for Rust and C: slices as pointer and length, replies as document 01's numbers.
+#![tactic(auto)]
+
 ghost use Rattle.std.specs.Prelude.{◌≡◌};
 ghost use Rattle.agreement.specs.Translation.Kind.{kind, kind_number};
 ghost use Rattle.block.specs.Answers as Answers;
