@@ -1,5 +1,5 @@
-/* Blocks of x86-64 code for runs of RV64 words: the functions of the archive that `rt staticlib capi` writes to
- * target/staticlib/libcapi.a, for C and C++ on x86-64 Linux. Their contracts stand in crates/capi/src/lib.rt.
+/* Blocks of x86-64 code for runs of RV64 words: the functions of the archive crates/capi/out/libcapi.a, which `rt lib` in crates/capi
+ * writes, for C and C++ on x86-64 Linux. Their contracts stand in crates/capi/src/lib.rt.
  *
  * No function keeps a pointer. A pointer whose length is 0 is not read. What is lent to be written must not overlap anything else that is lent. */
 #ifndef EMUKO_X64_BLOCKS_H

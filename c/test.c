@@ -1,7 +1,7 @@
 /* The header and the archive from C: a run is fetched as far as it is needed, translated, placed and entered, and its block is found again.
  *
- *     rt staticlib capi
- *     cc -std=c11 -Wall -Wextra -Werror -pedantic c/test.c target/staticlib/libcapi.a -o target/c-test && target/c-test
+ *     (cd crates/capi && rt lib)
+ *     cc -std=c11 -Wall -Wextra -Werror -pedantic c/test.c crates/capi/out/libcapi.a -o crates/capi/out/c-test && crates/capi/out/c-test
  *
  * Ends with status 0, and prints nothing but that all is well, where everything is as expected. */
 #define _DEFAULT_SOURCE

@@ -1,4 +1,4 @@
-//! Builds the proved translator with `rt staticlib capi` at the repository's root and links it.
+//! Builds the proved translator with `rt lib` in crates/capi and links it.
 //!
 //! EMUKO_CAPI_ARCHIVE names an archive that is already built; then `rt` is not needed.
 
@@ -10,8 +10,6 @@ use std::process::{exit, Command};
 
 fn main() {
     println!("cargo:rerun-if-changed=build.rs");
-    println!("cargo:rerun-if-changed=../crates");
-    println!("cargo:rerun-if-changed=../crates.txt");
     println!("cargo:rerun-if-env-changed=EMUKO_CAPI_ARCHIVE");
 
     let arch = env::var("CARGO_CFG_TARGET_ARCH").unwrap();
@@ -30,8 +28,8 @@ fn main() {
         None => build(),
     };
 
-    // A copy, so that a later `rt ci`, which empties target/, does not take the library away, and so that writing the archive
-    // does not by itself make cargo run this again; under a name that no other library has.
+    // A copy, so that a later `rt ci`, which sets aside what `rt` has built, does not take the library away; under a name that no
+    // other library has.
     let out = PathBuf::from(env::var_os("OUT_DIR").unwrap());
     if let Err(error) = fs::copy(&archive, out.join("libemuko_x64_blocks.a")) {
         stop(&format!("cannot read {}: {error}", archive.display()));
@@ -49,24 +47,45 @@ fn build() -> PathBuf {
     let root = manifest
         .parent()
         .expect("this folder stands in the repository");
+    watch(root);
+    let capi = root.join("crates/capi");
     let status = match Command::new("rt")
-        .args(["staticlib", "capi"])
-        .current_dir(root)
+        .arg("lib")
+        .current_dir(&capi)
         .stdout(stderr())
         .status()
     {
         Ok(status) => status,
         Err(error) => stop(&format!(
             "cannot start `rt` ({error}). Put the Rattle kit's `rt` on the PATH, or set EMUKO_CAPI_ARCHIVE to a libcapi.a that \
-             `rt staticlib capi` has built"
+             `rt lib` in crates/capi has built"
         )),
     };
     if !status.success() {
         stop(&format!(
-            "`rt staticlib capi` failed ({status}); its output stands above"
+            "`rt lib` in crates/capi failed ({status}); its output stands above"
         ));
     }
-    root.join("target/staticlib/libcapi.a")
+    capi.join("out/libcapi.a")
+}
+
+/// Names to cargo the files that `rt` reads: the list of crates, and code, definitions and proofs of each. A crate's out/, which `rt`
+/// writes, is not among them: else cargo would run this again each time.
+fn watch(root: &Path) {
+    println!("cargo:rerun-if-changed={}", root.join("crates.txt").display());
+    let crates = match fs::read_dir(root.join("crates")) {
+        Ok(crates) => crates,
+        Err(error) => stop(&format!("cannot read the folder crates: {error}")),
+    };
+    for folder in crates.flatten() {
+        for part in ["src", "specs", "proofs"] {
+            let path = folder.path().join(part);
+            // A path that is not there would count as changed.
+            if path.exists() {
+                println!("cargo:rerun-if-changed={}", path.display());
+            }
+        }
+    }
 }
 
 fn stop(message: &str) -> ! {

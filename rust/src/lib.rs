@@ -1,7 +1,7 @@
 //! Blocks of x86-64 code for runs of RV64 words.
 //!
-//! The translator is emuko's, ported to Rattle and proved there; this crate builds it (`rt staticlib capi` at the repository's root),
-//! links it and wraps its functions. It adds nothing to what they do, but that [`BucketIndex`] picks by a hash which entries it lends.
+//! The translator is emuko's, ported to Rattle and proved there; this crate builds it (`rt lib` in the repository's crates/capi), links
+//! it and wraps its functions. It adds nothing to what they do, but that [`BucketIndex`] picks by a hash which entries it lends.
 //!
 //! ```
 //! use emuko_x64_blocks::{translate, Request, GREATEST_BLOCK};
@@ -111,7 +111,7 @@
 //! # Building
 //!
 //! The build script needs `rt` on the PATH. It proves the crates first, which takes minutes from nothing and seconds when nothing has
-//! changed. To build without `rt`, set `EMUKO_CAPI_ARCHIVE` to the full path of a `libcapi.a` that `rt staticlib capi` has built.
+//! changed. To build without `rt`, set `EMUKO_CAPI_ARCHIVE` to the full path of a `libcapi.a` that `rt lib` in crates/capi has built.
 
 #![no_std]
 #![warn(missing_docs)]
