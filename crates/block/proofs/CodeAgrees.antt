@@ -7,12 +7,10 @@ use Rattle.agreement.specs.Translation.Replies.{Reply, numbered, output_after}
 use Rattle.agreement.specs.Translation.Replies.Reply.{block, refusal}
 use Rattle.agreement.specs.Translation.Replies.Refusal.{limit_zero, odd_start, missing, not_taken, output_short}
 use Rattle.agreement.specs.Statement.Machine.{RegisterBytes, Turn, Event, Turned, History, reply}
-use Rattle.agreement.specs.Statement.Machine.Turned.{skip, visit}
-use Rattle.agreement.specs.Statement.Machine.History.{end, then}
 use Rattle.agreement.proofs.Theorem.Agreement.{agreement}
 use Rattle.agreement.specs.Statement.Agreement.{Agreement, Agrees}
 use Rattle.block.specs.Answers.{Answers}
-use Rattle.block.specs.AgreementInCode.{Ran, Ran.skip, Ran.visit, Run, Run.end, Run.then, AgreementInCode}
+use Rattle.block.specs.AgreementInCode.{Ran, Run, AgreementInCode}
 use Rattle.block.specs.declared.Answer.{Answer}
 use Rattle.block.specs.declared.Answer.TheVariants.{Block, LimitZero, OddStart, Missing, NotTaken, OutputShort}
 use Rattle.block.proofs.CallerReadsReply.{reads}
@@ -36,11 +34,11 @@ answers (refusal (not_taken word)) l = record { answers = refl; leaves = refl }
 answers (refusal output_short) l = record { answers = refl; leaves = refl }
 
 -- one turn
-turned : {pc pc' : ℕ} {rb rb' : RegisterBytes} {t : Turn} {e : Event} → Ran pc rb t e pc' rb' → Turned pc rb t e pc' rb'
+turned : {pc pc' : ℕ} {rb : RegisterBytes} {t : Turn} {rb' : RegisterBytes} {e : Event} → Ran pc rb t e pc' rb' → Turned pc rb t e pc' rb'
 turned {pc} {t = t} (Ran.skip {r} c e) = Turned.skip (sym (reads (reply t pc) r c) ∙ e)
 turned {pc} {t = t} (Ran.visit {r} c e w) = Turned.visit (sym (reads (reply t pc) r c) ∙ e) w
 
-ran : {pc pc' : ℕ} {rb rb' : RegisterBytes} {t : Turn} {e : Event} → Turned pc rb t e pc' rb' → Ran pc rb t e pc' rb'
+ran : {pc pc' : ℕ} {rb : RegisterBytes} {t : Turn} {rb' : RegisterBytes} {e : Event} → Turned pc rb t e pc' rb' → Ran pc rb t e pc' rb'
 ran {pc} {t = t} (Turned.skip e) =
     let c = answers (reply t pc) t.output in
     Ran.skip c (reads (reply t pc) (answer_to (reply t pc)) c ∙ e)

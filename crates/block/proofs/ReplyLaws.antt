@@ -21,7 +21,6 @@ use Rattle.emitter.proofs.WriteLaws.{parts}
 use Rattle.walk.specs.Walks.{Compiles}
 use Rattle.block.specs.Answers.{Answers, Fits}
 use Rattle.block.specs.declared.Answer.{Answer}
-use Rattle.block.specs.declared.Answer.TheVariants as Answer
 use Rattle.walk.specs.declared.close.Compiled.{Compiled}
 
 -- 1. The reply, by the tests in their order

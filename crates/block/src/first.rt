@@ -7,7 +7,7 @@ ghost use Rattle.block.specs.First.{first_as, by_number};
 use kind::WordKind;
 use walk::fetch::Fetched;
 
-#[derive(Drop)]
+#[derive(Clone, Copy)]
 pub enum First {
     Begins,
     Lacks(u32),

@@ -17,7 +17,7 @@ use walk::close;
 use walk::close::Compiled;
 
 // Document 01, "Replies". `specs/Answers` gives each case its number and values.
-#[derive(Drop)]
+#[derive(Clone, Copy)]
 pub enum Answer {
     Block { length: usize, count: u32 },
     LimitZero,

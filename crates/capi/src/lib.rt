@@ -1,4 +1,6 @@
 // The translator as functions for Rust and C: slices as pointer and length, replies as document 01's numbers.
+#![tactic(auto)]
+
 ghost use Rattle.std.specs.Prelude.{◌≡◌};
 ghost use Rattle.agreement.specs.Translation.Kind.{kind, kind_number};
 ghost use Rattle.block.specs.Answers as Answers;
@@ -10,7 +12,7 @@ ghost use Rattle.capi.specs.Indexes.{told, RepliesToFind, RepliesToInsert};
 
 // Document 01, "Replies": the number, 0 where there is none, and its values, 0 where there are fewer.
 #[repr(C)]
-#[derive(Drop)]
+#[derive(Clone, Copy)]
 pub struct Reply {
     pub number: u64,
     pub first: u64,

@@ -9,7 +9,7 @@ ghost use Rattle.std.specs.Prelude.{◌≡◌, ◌^◌, ◌<◌, ◌≤◌};
 ghost use Rattle.agreement.specs.Riscv.Immediates.{sign_extend, imm_i, imm_s, imm_b, imm_u, imm_j};
 ghost use Rattle.decode.specs.Decoded.{decoded};
 
-#[derive(Drop)]
+#[derive(Clone, Copy)]
 pub struct Decoded32 {
     pub opcode: u8,
     pub rd: u8,

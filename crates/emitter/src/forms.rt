@@ -1,7 +1,7 @@
 // The table of host forms: the opcode and the extension digit of each (Intel SDM volume 2, the page of each mnemonic).
 // After 0F stands the second opcode byte; a register or a condition number is added to it where the form says so.
 // The digit is that of ModRM.reg, 0 where the form has none.
-#[derive(Drop)]
+#[derive(Clone, Copy)]
 pub struct Form(pub u8, pub u8);
 
 pub const PUSH_R64: Form = Form(0x50, 0);

@@ -20,7 +20,7 @@ ghost use Rattle.emitter.specs.Shapes.{digit_rm_imm8, digit_rm_imm32, bare, jump
 
 use forms::Form;
 
-#[derive(Drop)]
+#[derive(Clone, Copy)]
 pub enum X64Cc {
     B,
     AE,
@@ -52,7 +52,7 @@ fn rex_w(w: bool) -> u8
 }
 
 // The place in the output at which the next byte goes.
-#[derive(Drop)]
+#[derive(Clone, Copy)]
 pub struct X64Emitter {
     pub at: usize,
 }

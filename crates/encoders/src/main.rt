@@ -1,11 +1,11 @@
 // Writes one instruction of each host form, so that a disassembler can be held against the emitter: its compiled code runs here.
 #![tactic(auto)]
 
-ghost use Rattle.std.specs.Prelude.{◌≡◌, ◌+◌, ◌≤◌, length};
-ghost use Rattle.io.specs.Counts.{IsPrefixLen};
+ghost use Rattle.std.specs.Prelude.{◌≡◌, ◌+◌, ◌≤◌, length, take};
 
 use emitter::{X64Cc, X64Emitter};
-use libc::STDOUT_FILENO;
+use std::io;
+use std::io::Write;
 
 // PUSH, POP.
 fn pushes_and_pops(em: X64Emitter, out: &mut [u8]) -> X64Emitter
@@ -290,7 +290,7 @@ fn jumps(em: X64Emitter, out: &mut [u8]) -> X64Emitter
 
 // How many bytes were written.
 fn all(out: &mut [u8]) -> usize
-    ensures { IsPrefixLen result out.new }
+    ensures { (result ≤ length out.new) × (result ≡ length (take result out.new)) }
 {
     if out.len() < 768 {
         return 0;
@@ -304,8 +304,9 @@ fn all(out: &mut [u8]) -> usize
     f.at
 }
 
-fn main() {
+// A write that fails ends the program with its error.
+fn main(rt: HostRuntime) -> io::Result<()> {
     let mut out = [0u8; 768];
     let n = all(&mut out);
-    io::write_all(STDOUT_FILENO, &out[..n]);
+    io::writer(&rt).write_all(&out[..n])
 }

@@ -2,13 +2,13 @@
 use mathlib.Core.Path.{◌≡◌, refl, sym, ap, ◌∙◌}
 use mathlib.Core.Bool.{Bool, true, false, not, cond, true≢false}
 use mathlib.Core.List.{List, [], ◌∷◌}
-use mathlib.Core.Option.{Option, none, some, some-injective, none-ne-some, some-ne-none}
+use mathlib.Core.Option.{none, some, some-injective, none-ne-some, some-ne-none}
 use Prim.Native.Nat.{ℕ, zero, suc}
 use lib.Dec.{eqb}
 use lib.ListN.{get_elem?}
 use borrow.Author.Tests.{eqb-true, eqb-false, eq-eqb, ne_eqb}
 use Rattle.entry.specs.Index.{free, is_in_use, keyed, holds, any, first_that, before, over_first, find, taken, mark_of, renewed, insert}
-use Rattle.entry.specs.Index.{insert_answer, freed, empty}
+use Rattle.entry.specs.Index.{insert_answer, empty}
 use Rattle.entry.specs.History.{Event, Event.inserted, Event.refused, Event.emptied, last, Operation, Operation.inserts}
 use Rattle.entry.specs.History.{Operation.empties, after, outcome, events, showing, Distinct, ShowsLast, History}
 use Rattle.entry.specs.declared.Entry.{Entry}

@@ -6,7 +6,7 @@ use mathlib.Core.Option.{none, some, some-ne-none}
 use Prim.Native.Nat.{ℕ}
 use borrow.Author.Tests.{eq-eqb}
 use Rattle.entry.specs.Index.{free, holds, any, first_that, before, find, taken, insert_answer}
-use Rattle.entry.specs.Laws.{Refuses, RefusesWhenFull}
+use Rattle.entry.specs.Laws.{RefusesWhenFull}
 use Rattle.entry.specs.declared.Entry.{Entry}
 use Rattle.entry.proofs.Scans.{found_none}
 use Rattle.entry.proofs.LastShown.{refused_is}

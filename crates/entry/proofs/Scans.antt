@@ -3,12 +3,10 @@ use mathlib.Core.Path.{◌≡◌, refl, sym, ap, ◌∙◌, subst}
 use mathlib.Core.Bool.{Bool, true, false, cond, true≢false}
 use mathlib.Core.List.{List, [], ◌∷◌}
 use mathlib.Core.Option.{Option, none, some}
-use Prim.Native.Nat.{ℕ, zero, suc, ◌+◌, ◌<◌, ◌≤◌}
+use Prim.Native.Nat.{ℕ, suc, ◌<◌, ◌≤◌}
 use native.Mathlib.Omega.{arith}
 use lib.Dec.{ltb}
-use lib.ListN.{length, set, get_or, drop, drop_of_length-le}
-use lib.Seq.{drop-cons}
-use native.Mathlib.Numerals.{add-one}
+use lib.ListN.{length, set, get_or}
 use borrow.Author.Tests.{lt-ltb, le-ltb, ltb-true, ltb-false}
 use Rattle.entry.specs.Index.{any, first_that, before, over_first}
 use Rattle.entry.specs.declared.Entry.{Entry}
@@ -41,30 +39,7 @@ found_none p (e ∷ es) h = at (p e) h (found_none p es)
     at true h' i = absurd (true≢false h')
     at false h' i = i h'
 
--- 2. A scan that has come to entry i, none before it having passed
-
-pub hit_at : (p : Entry → Bool) (es : List Entry) (i : ℕ) (d : Entry) → i < length es → p (get_or es i d) ≡ true
-    → i + before p (drop i es) ≡ before p es → i ≡ before p es
-hit_at p es i d h e f =
-    let g : before p (drop i es) ≡ 0 =
-    ap (before p) (drop-cons es i d h) ∙ ap (λ (b : Bool). cond b 0 (suc (before p (drop (suc i) es)))) e
-    in
-    omega (arith, f, g)
-
-pub pass_on : (p : Entry → Bool) (es : List Entry) (i : ℕ) (d : Entry) → i < length es → p (get_or es i d) ≡ false
-    → i + before p (drop i es) ≡ before p es → (i + 1) + before p (drop (i + 1) es) ≡ before p es
-pass_on p es i d h e f =
-    let g : before p (drop i es) ≡ suc (before p (drop (suc i) es)) =
-    ap (before p) (drop-cons es i d h) ∙ ap (λ (b : Bool). cond b 0 (suc (before p (drop (suc i) es)))) e
-    in
-    ap (λ (k : ℕ). (i + 1) + before p (drop k es)) (add-one i) ∙ omega (arith, f, g)
-
-pub ends_at : (p : Entry → Bool) (es : List Entry) (i : ℕ) → length es ≤ i → i + before p (drop i es) ≡ before p es → i ≡ before p es
-ends_at p es i h f =
-    let g : before p (drop i es) ≡ 0 = ap (before p) (drop_of_length-le es h) in
-    omega (arith, f, g)
-
--- 3. What the index of the first says of the first
+-- 2. What the index of the first says of the first
 
 pub found_at : (p : Entry → Bool) (es : List Entry) (i : ℕ) (d : Entry) → i ≡ before p es → i < length es
     → some (get_or es i d) ≡ first_that p es
@@ -83,7 +58,7 @@ found_at p es i d e h = ap (λ (k : ℕ). some (get_or es k d)) e ∙ at es (sub
 pub found_not : (p : Entry → Bool) (es : List Entry) (i : ℕ) → i ≡ before p es → length es ≤ i → none ≡ first_that p es
 found_not p es i e h = sym (found_none p es (none_passes p es (omega (arith, e, h))))
 
--- 4. The first that passes is changed
+-- 3. The first that passes is changed
 
 pub set_over : (p : Entry → Bool) (f : Entry → Entry) (d : Entry) (es : List Entry)
     → set es (before p es) (f (get_or es (before p es) d)) ≡ over_first p f es

@@ -6,7 +6,7 @@ ghost use Rattle.entry.specs.Index as Index;
 
 // `NativeBlock` of src/hart.rs: where a block stands in the code store, and how many guest instructions it has. Nothing is range-checked.
 #[repr(C)]
-#[derive(Drop)]
+#[derive(Clone, Copy)]
 pub struct NativeBlock {
     pub offset: usize,
     pub count: u32,
@@ -14,7 +14,7 @@ pub struct NativeBlock {
 
 // A block under its key. The mark is a number, so that whatever a caller of another language puts there is one: 0 is not in use.
 #[repr(C)]
-#[derive(Drop)]
+#[derive(Clone, Copy)]
 pub struct Entry {
     pub satp: u64,
     pub pc: u64,

@@ -30,9 +30,6 @@ pub record Cleared (ys zs : List Entry) (i : ℕ) : Type 0 where
   pub same : length zs ≡ length ys
   pub entries : behind i zs ≡ empty ys
 
-pub none_cleared : (ys : List Entry) → Cleared ys ys 0
-none_cleared ys = record { le = omega arith; same = refl; entries = refl }
-
 pub one_cleared : (ys zs : List Entry) (i : ℕ) (d : Entry) → Cleared ys zs i → i < length zs
     → Cleared ys (set zs i (freed (get_or zs i d))) (i + 1)
 one_cleared ys zs i d s h = record {
@@ -41,7 +38,7 @@ one_cleared ys zs i d s h = record {
   entries = ap (λ (k : ℕ). behind k (set zs i (freed (get_or zs i d)))) (add-one i) ∙ behind-suc zs i d h ∙ s.entries;
 }
 
-pub all_cleared : (ys zs : List Entry) (i : ℕ) → Cleared ys zs i → length ys ≤ i → zs ≡ empty ys
+pub all_cleared : (ys zs : List Entry) (i : ℕ) → Cleared ys zs i → length zs ≤ i → zs ≡ empty ys
 all_cleared ys zs i s h =
     let all : length zs ≡ i = omega (arith, s.same, s.le, h) in
     sym (behind-all zs) ∙ ap (λ (k : ℕ). behind k zs) all ∙ s.entries

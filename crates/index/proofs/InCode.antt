@@ -1,11 +1,11 @@
 -- The history of the code: each call's contract gives what the definition leaves.
-use mathlib.Core.Path.{◌≡◌, sym, ap, ◌∙◌, subst}
+use mathlib.Core.Path.{◌≡◌, sym, ◌∙◌, subst}
 use mathlib.Core.Bool.{false}
 use mathlib.Core.List.{List, ◌∷◌}
 use Prim.Native.Nat.{ℕ}
 use Rattle.entry.specs.Index.{is_in_use, any, insert_answer}
 use Rattle.entry.specs.Index as Index
-use Rattle.entry.specs.History.{Event, Event.emptied, outcome}
+use Rattle.entry.specs.History.{Event, outcome}
 use Rattle.index.specs.HistoryInCode.{Leads, Leads.begin, HistoryInCode}
 use Rattle.index.specs.HistoryInCode as Code
 use Rattle.entry.specs.declared.Entry.{Entry}

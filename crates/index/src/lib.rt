@@ -9,21 +9,21 @@ ghost use Rattle.index.specs.Answers.{meets, Finds, Inserts, Empties};
 
 use entry::{Entry, NativeBlock};
 
-#[derive(Drop)]
+#[derive(Clone, Copy)]
 pub enum Found {
     Shown { entry: Entry },
     Nothing,
 }
 
 // Document 02, Q-4: number 8 where the key is new and every entry is in use.
-#[derive(Drop)]
+#[derive(Clone, Copy)]
 pub enum Inserting {
     At { index: usize },
     Full,
 }
 
 // What a scan looks for: the key, in use, or an entry that is not in use.
-#[derive(Drop)]
+#[derive(Clone, Copy)]
 pub enum Wanted {
     Key { satp: u64, pc: u64 },
     Free,

@@ -11,7 +11,7 @@ ghost use Rattle.kind.specs.Numbered.{number_of};
 
 // The block goes on behind a straight word; an ending word ends it; at a load or store the memory helper does.
 // `specs/Numbered` gives each its number.
-#[derive(Drop)]
+#[derive(Clone, Copy)]
 pub enum WordKind {
     NotTaken,
     Straight,

@@ -1,3 +1,1 @@
-pub mod Copying
 pub mod PlacingLaws
-pub mod Marked

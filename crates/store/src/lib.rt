@@ -5,7 +5,7 @@ ghost use Rattle.std.specs.Prelude.{◌≡◌, ◌++◌, ◌+◌, ◌≤◌, len
 ghost use Rattle.store.specs.Places.{Places, mark_of, Allocates};
 
 // Document 01, "Replies". `specs/Places` gives each case its number and values.
-#[derive(Drop)]
+#[derive(Clone, Copy)]
 pub enum Placing {
     Placed { offset: usize, mark: usize },
     Beyond,

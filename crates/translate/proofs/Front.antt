@@ -5,7 +5,7 @@ use Prim.Native.Nat.{ℕ}
 use native.Mathlib.Omega.{arith}
 use lib.ListN.{take}
 use Rattle.agreement.specs.Translation.Replies.{Reply}
-use Rattle.io.specs.Counts.{IsPrefixLen}
+use Rattle.translate.specs.Prefix.{IsPrefixLen}
 use Rattle.block.specs.Answers.{Answers, Fits}
 use Rattle.block.specs.CallerReads.{read}
 use Rattle.block.specs.declared.Answer.{Answer}

@@ -2,12 +2,13 @@
 // limit 64 and both helpers 0. The block's bytes go to standard output, or none when the translation is refused.
 #![tactic(auto)]
 
-ghost use Rattle.std.specs.Prelude.{◌≡◌, ◌+◌, ◌*◌, ◌≤◌, length, take};
-ghost use Rattle.io.specs.Counts.{IsPrefixLen};
+ghost use Rattle.std.specs.Prelude.{◌≡◌, ◌+◌, ◌*◌, ◌≤◌, length, take, IfOk};
 ghost use Rattle.translate.specs.Program.{halfwords_of, length_of, written};
+ghost use Rattle.translate.specs.Prefix.{IsPrefixLen};
 
 use block::Answer;
-use libc::{STDERR_FILENO, STDIN_FILENO, STDOUT_FILENO};
+use std::io;
+use std::io::{Read, Write};
 
 fn low_and_high(low: u8, high: u8) -> u16
     ensures { result ≡ low + 256 * high }
@@ -53,16 +54,26 @@ fn block_of(code: &[u8], out: &mut [u8]) -> usize
     block_length(answer)
 }
 
-// A program has no status to end with, so standard error tells where the block could not be written.
-fn main() {
+// Reads until `buf` is full or the input ends, and says how many bytes stand at its front.
+fn read_full<R: Read>(reader: &mut R, buf: &mut [u8]) -> io::Result<usize>
+    ensures { IfOk result (λ n. IsPrefixLen n buf.new) }
+{
+    let mut done = 0;
+    while done < buf.len() {
+        let n = reader.read(&mut buf[done..])?;
+        if n == 0 {
+            break;
+        }
+        done += n;
+    }
+    Ok(done)
+}
+
+// A read or a write that fails ends the program with its error.
+fn main(rt: HostRuntime) -> io::Result<()> {
     let mut code = [0u8; 256];
-    let n = io::read_full(STDIN_FILENO, &mut code);
+    let n = read_full(&mut rt.reader(), &mut code)?;
     let mut out = [0u8; 4099];
     let k = block_of(&code[..n], &mut out);
-    if !io::write_all(STDOUT_FILENO, &out[..k]) {
-        io::write_all(
-            STDERR_FILENO,
-            b"translate: standard output cannot be written\n",
-        );
-    }
+    io::writer(&rt).write_all(&out[..k])
 }

@@ -9,7 +9,7 @@ ghost use Rattle.walk.specs.Walks.{end_as, most, Closes};
 use emitter::X64Emitter;
 
 // It goes on at a pc, which the end puts into RAX; or an ending word has set RAX; or a helper is called with an instruction and its pc.
-#[derive(Drop)]
+#[derive(Clone, Copy)]
 pub enum End {
     GoesOn(u64),
     Jumped,
@@ -34,7 +34,7 @@ fn close_at(em: X64Emitter, out: &mut [u8], pc: u64, emitted: u32) -> X64Emitter
 }
 
 // The place behind a block, and the block's count.
-#[derive(Drop)]
+#[derive(Clone, Copy)]
 pub struct Compiled {
     pub em: X64Emitter,
     pub count: u32,

@@ -3,7 +3,7 @@ ghost use Rattle.std.specs.Prelude.{◌≡◌, ◌+◌, drop};
 ghost use Rattle.walk.specs.Fetch.{fetched};
 
 // What stands at a place: the halfword that is missing, counted from there; a compressed halfword; a word.
-#[derive(Drop)]
+#[derive(Clone, Copy)]
 pub enum Fetched {
     Missing(u32),
     Half(u16),

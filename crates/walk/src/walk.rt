@@ -16,7 +16,7 @@ use kind::WordKind;
 use words::X64EmitFlow;
 
 // The place behind the words, how many they are, and how the block ends.
-#[derive(Drop)]
+#[derive(Clone, Copy)]
 pub struct Walked {
     pub em: X64Emitter,
     pub emitted: u32,

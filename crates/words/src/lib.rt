@@ -24,7 +24,7 @@ use emitter::X64Emitter;
 
 // `Terminate`: the word is the block's last, and has set RAX. `StopBehind`, which the Rust does not have: the word is the block's last;
 // the block goes on at the word behind, and its end sets RAX.
-#[derive(Drop)]
+#[derive(Clone, Copy)]
 pub enum X64EmitFlow {
     Continue,
     Terminate,
@@ -33,7 +33,7 @@ pub enum X64EmitFlow {
 }
 
 // How the block goes on, and the place behind what was written.
-#[derive(Drop)]
+#[derive(Clone, Copy)]
 pub struct Emitted {
     pub flow: X64EmitFlow,
     pub em: X64Emitter,

@@ -8,7 +8,6 @@ use native.Mathlib.Nat.{mod-eq_of_lt}
 use native.Mathlib.Omega.{arith}
 use lib.Dec.{eqb, eqb→eq, leb}
 use lib.ListN.{length, length-append}
-use lib.Pow.{low}
 use Rattle.agreement.specs.Common.{Helper, Helper.for_access, Helper.for_halfword}
 use Rattle.agreement.specs.Riscv.Run.{Read, Registers, Stop.called, Stop.plain}
 use Rattle.agreement.specs.Translation.Emit.{add_count, closing, opening, passes}
@@ -19,7 +18,7 @@ use Rattle.agreement.specs.X86.Flags.{alu_value, sext}
 use Rattle.agreement.specs.X86.Form.{Instr, Ok, R12, R13, R14, R8, RAX, RBX, RCX, RDI, RDX, RSI, RSP}
 use Rattle.agreement.specs.X86.Form.Alu.{add}
 use Rattle.agreement.specs.X86.Form.Instr.{alu_imm32, call_rax, mov_imm64, ret}
-use Rattle.agreement.specs.X86.Memory.{at, read}
+use Rattle.agreement.specs.X86.Memory.{read}
 use Rattle.agreement.specs.X86.State.{Flags, Permissions, State}
 use Rattle.agreement.specs.X86.Step.{next, past, step}
 use Rattle.agreement.proofs.Block.Stages.{Calls, Entry, Exit, Inside, Mid, Place, Returned, Way, begin, call_step, called_at}
@@ -32,7 +31,7 @@ use Rattle.agreement.proofs.Words.Simulation.{Agree, Next}
 use Rattle.agreement.proofs.Words.Slots.{Slots}
 use Rattle.agreement.proofs.Words.Tame.{AllTame, Tame}
 use Rattle.agreement.proofs.Host.Paths.{jumpless_left, jumpless_right, path_steps}
-use Rattle.agreement.proofs.Host.Jumpless.{StepsThrough, is_jump, jumpless}
+use Rattle.agreement.proofs.Host.Jumpless.{StepsThrough, jumpless}
 
 -- 1. The bytes and the number of instructions of each end
 

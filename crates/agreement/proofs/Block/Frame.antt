@@ -12,7 +12,7 @@ use Rattle.agreement.specs.Translation.Emit.{closing, opening}
 use Rattle.agreement.specs.X86.Execute.{accesses, exec}
 use Rattle.agreement.specs.X86.Flags.{alu_value, sext}
 use Rattle.agreement.specs.X86.Form.{Instr, R12, R13, R14, R15, R8, R9, RAX, RBP, RBX, RCX, RDI, RDX, RSI, RSP}
-use Rattle.agreement.specs.X86.Form.Alu.{add, sub}
+use Rattle.agreement.specs.X86.Form.Alu.{sub}
 use Rattle.agreement.specs.X86.Form.Instr.{alu_imm8, mov, push}
 use Rattle.agreement.specs.X86.Memory.{Memory, at, read, span, write}
 use Rattle.agreement.specs.X86.State.{Flags, Permissions, State}
@@ -21,7 +21,6 @@ use Rattle.agreement.proofs.Host.Fetching.{one}
 use Rattle.agreement.proofs.Host.Memory.{read_other, read-write, write_out}
 use Rattle.agreement.proofs.Host.Straight.{Kept, Safe, all_append, all-span, run, safe_append, trace}
 use Rattle.agreement.proofs.Laws.Tests.{leb-true}
-use Rattle.agreement.proofs.Theorem.RefusedAlike.{Replied.out}
 
 -- 1. Eight bytes of the stack
 

@@ -8,7 +8,6 @@ use native.Mathlib.Decide.{dec_le, ℕ_discrete}
 use native.Mathlib.Nat.{pow-suc, pow-zero}
 use native.Mathlib.Omega.{arith}
 use lib.Dec.{eqb, ltb}
-use Rattle.agreement.specs.Riscv.Run.{Stop.plain}
 use Rattle.agreement.specs.X86.Decode.{Answer, Operand, alu_of, cc_of, decode, imm, loaded, memory, modrm, moved, on_reg, only, opcode_0f}
 use Rattle.agreement.specs.X86.Decode.{opcode1, pick, shift_of, sib, width_of, mul_div_of}
 use Rattle.agreement.specs.X86.Decode.Operand.{mem, reg}
@@ -21,7 +20,7 @@ use Rattle.agreement.specs.X86.Form.Instr.{ret, setcc_al, shift_cl, shift_imm8, 
 use Rattle.agreement.specs.X86.Form.Shift.{sar, shl, shr}
 use Rattle.agreement.specs.X86.Form.Width.{r32, r64}
 use Rattle.agreement.specs.X86.Form.MulDiv.{sdiv, smul, udiv, umul}
-use Rattle.agreement.specs.X86.Memory.{at, bytes_of}
+use Rattle.agreement.specs.X86.Memory.{bytes_of}
 use Rattle.agreement.proofs.Laws.Tests.{eqb_no, eqb_yes, leb_yes}
 
 -- REX.W

@@ -1,7 +1,7 @@
 -- Instructions without a jump among them, and how many steps a way through instructions takes.
 use mathlib.Core.Bool.{Bool, false, true}
-use mathlib.Core.List.{List, [], ◌++◌, ◌∷◌}
-use mathlib.Core.Path.{◌≡◌, refl}
+use mathlib.Core.List.{List, [], ◌∷◌}
+use mathlib.Core.Path.{◌≡◌}
 use Prim.Native.Nat.{◌≤◌, ℕ}
 use lib.ListN.{length}
 use Rattle.agreement.specs.X86.Form.{Instr}

@@ -5,7 +5,6 @@ use Prim.Native.Nat.{◌%◌, ◌*◌, ◌+◌, ◌/◌, ◌<◌, ◌^◌, ◌�
 use native.Mathlib.Nat.{pow-suc, pow-zero}
 use native.Mathlib.Omega.{arith}
 use lib.Arith.{mod-mul}
-use lib.IntN.{ℤ.pos}
 use Rattle.agreement.specs.X86.Memory.{Memory, at, put, read, up, write}
 use Rattle.agreement.proofs.Laws.Tests.{eqb_no, eqb_yes}
 

@@ -8,8 +8,6 @@ use Prim.Native.Nat.{◌+◌, ◌<◌, ◌^◌, suc, zero, ℕ}
 use native.Mathlib.Omega.{arith}
 use lib.Dec.{T}
 use lib.ListN.{length, length-append}
-use lib.Pow.{low}
-use Rattle.agreement.specs.Statement.Agreement.{after}
 use Rattle.agreement.specs.X86.Encode.{bytes, encode}
 use Rattle.agreement.specs.X86.Execute.{accesses, below, exec, operand, division_faults, faults}
 use Rattle.agreement.specs.X86.Form.{Instr, Ok, MulDiv}

@@ -12,7 +12,6 @@ use Rattle.agreement.specs.Laws.{ComparesByFlags}
 use Rattle.agreement.specs.Riscv.Instruction.{signed}
 use Rattle.agreement.specs.X86.Flags.{holds, sub_flags, unlike}
 use Rattle.agreement.specs.X86.Form.{Cc.B, Cc.E, Cc.L}
-use Rattle.agreement.specs.X86.Memory.{up}
 use Rattle.agreement.proofs.Laws.Tests.{eqb_no, eqb_yes, leb-false, leb_no, leb-true, leb_yes}
 use Rattle.agreement.proofs.Laws.Width.{half}
 

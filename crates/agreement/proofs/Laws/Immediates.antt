@@ -10,7 +10,6 @@ use lib.Pow.{split}
 use Rattle.agreement.specs.Laws.{ImmediatesAlike, Ranges}
 use Rattle.agreement.specs.Riscv.Fields.{bits}
 use Rattle.agreement.specs.X86.Flags.{negative, sext}
-use Rattle.agreement.specs.X86.Memory.{at}
 use Rattle.agreement.proofs.Laws.Tests.{leb-false, leb_no, leb-true, leb_yes}
 use Rattle.agreement.proofs.Laws.Width.{by_shifts_is, sign_extend_is, sign_extend-lt}
 use Rattle.agreement.specs.Translation.Decode32 as Decode32

@@ -1,5 +1,5 @@
 -- Two's complement, product and division of the manual, tied to the integers.
-use mathlib.Core.Bool.{Bool, cond, false, true}
+use mathlib.Core.Bool.{false, true}
 use mathlib.Core.Logic.{◌≢◌}
 use mathlib.Core.Path.{◌∙◌, ◌≡◌, ap, refl, sym}
 use Prim.Native.Nat.{◌%◌, ◌*◌, ◌+◌, ◌-◌, ◌/◌, ◌<◌, ◌^◌, ◌≤◌, suc, zero, ℕ}
@@ -10,9 +10,9 @@ use native.Mathlib.Omega.{arith}
 use lib.IntN.{◌*ℤ◌, ◌+ℤ◌, nat_abs, neg_ℤ, neg_ℤ-+ℤ, ℤ, ℤ.negsuc, ℤ.pos}
 use lib.Pow.{pow-add, pow_pos}
 use lib.Signed.{mag, mag_rem, non_neg, quot_z, rem_z}
-use Rattle.agreement.specs.Laws.{BitsOf, DivideTowardZero, DivideUnsigned, Divides, DividesU, IntegersHaveBits, StandForIntegers, StandsFor}
+use Rattle.agreement.specs.Laws.{DivideTowardZero, DivideUnsigned, IntegersHaveBits, StandForIntegers}
 use Rattle.agreement.specs.Laws.{UpperHalves}
-use Rattle.agreement.specs.Riscv.Instruction.{bits_of, overflows, quotient, quotient_u, remainder, remainder_u, signed, upper_half}
+use Rattle.agreement.specs.Riscv.Instruction.{bits_of, overflows, quotient, quotient_u, remainder, remainder_u, signed}
 use Rattle.agreement.proofs.Laws.Signed.{bits-lt, mag-neg, mag_signed, minus_one, overflow_is, quot_fits, signed_high, signed_low}
 use Rattle.agreement.proofs.Laws.Signed.{signed-minus, signed-zero}
 use Rattle.agreement.proofs.Laws.Tests.{eqb_no, eqb_yes, leb_no, leb_yes}

@@ -2,7 +2,6 @@
 use mathlib.Core.Bool.{Bool, ◌&&◌, cond, false, true}
 use mathlib.Core.List.{List, [], ◌++◌, ◌∷◌}
 use mathlib.Core.Logic.{◌≢◌}
-use mathlib.Core.Option.{none}
 use mathlib.Core.Path.{◌∙◌, ◌≡◌, ap, refl, subst, sym}
 use Prim.Native.Nat.{◌<◌, suc, zero, ℕ}
 use native.Mathlib.Decide.{ℕ_discrete}
@@ -18,7 +17,6 @@ use Rattle.agreement.specs.Riscv.Instruction.Top.{any_top}
 use Rattle.agreement.specs.Riscv.Run.{chosen, chosen_rows, reserved_rows, taken}
 use Rattle.agreement.specs.Translation.Kind.{Arm, kind, kind_branch, kind_fence, kind_load, kind_of, kind_op, kind_op32, kind_op_imm}
 use Rattle.agreement.specs.Translation.Kind.{kind_op_imm32, kind_store, match}
-use Rattle.agreement.specs.X86.Memory.{at}
 use Rattle.agreement.proofs.Laws.Fields.{funct3_is, funct6_is, funct7_is, opcode_is}
 use Rattle.agreement.proofs.Laws.Tests.{eqb_no, of_true}
 

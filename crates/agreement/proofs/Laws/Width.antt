@@ -6,13 +6,11 @@ use native.Mathlib.Decide.{dec_lt}
 use native.Mathlib.Nat.{div-eq_of_lt, div-eq_of_lt-le, mod-lt, mod-mod, mul-div_cancel, mul-le-mul_right, mul-lt-mul_of_pos_right, pow-suc}
 use native.Mathlib.Omega.{arith}
 use lib.Dec.{leb}
-use lib.Pow.{high, low, pow-add, pow_mono, pow_pos, shl_exact, shl-shr, shr_le, shr_lt, split}
+use lib.Pow.{pow-add, pow_mono, pow_pos, shl_exact, shl-shr, shr_le, shr_lt, split}
 use Rattle.agreement.specs.Laws.{ShiftsArithmetic, SignExtends, SignExtendsByShifts}
 use Rattle.agreement.specs.Riscv.Instruction.{shift_right_arithmetic, word}
-use Rattle.agreement.specs.X86.Execute.{below}
 use Rattle.agreement.specs.X86.Flags.{negative, sext, shifted}
 use Rattle.agreement.specs.X86.Form.{Shift.sar}
-use Rattle.agreement.specs.X86.Memory.{at}
 use Rattle.agreement.proofs.Laws.Tests.{leb_no, leb_yes}
 use Rattle.agreement.specs.Translation.Decode32 as Decode32
 use Rattle.agreement.specs.Riscv.Immediates as Manual

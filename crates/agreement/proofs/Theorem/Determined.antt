@@ -11,7 +11,6 @@ use Rattle.agreement.specs.Statement.Machine.History.{end, then}
 use Rattle.agreement.specs.Statement.Machine.Turned.{skip, visit}
 use Rattle.agreement.specs.Statement.Machine.Went.{helped, plainly}
 use Rattle.agreement.specs.X86.Form.{Instr, Instr.call_rax, Instr.ret}
-use Rattle.agreement.specs.X86.Memory.{at}
 use Rattle.agreement.specs.X86.State.{Flags, Permissions, State}
 use Rattle.agreement.specs.X86.Step.{Fetch, Goes, Goes.done, Goes.more, next, step}
 

@@ -11,7 +11,7 @@ use Rattle.agreement.specs.Common.{Helper, Helper.for_access, Helper.for_halfwor
 use Rattle.agreement.specs.Riscv.Run.{Feed, GuestState, Left, Read, Registers, Stop.called, Stop.plain, read_turn, reading, turn}
 use Rattle.agreement.specs.Translation.Emit.{add_count, closing, opening, passes}
 use Rattle.agreement.specs.Translation.Replies.{Block, Reply.block, block_of, walked}
-use Rattle.agreement.specs.Translation.Walk.{End, Walked, counted, ending, helper_at, instrs, before}
+use Rattle.agreement.specs.Translation.Walk.{End, Walked, counted, ending, helper_at, instrs}
 use Rattle.agreement.specs.Translation.Walk.End.{calls, goes_on, jumped}
 use Rattle.agreement.specs.Laws.{Halfwords}
 use Rattle.agreement.specs.Statement.Agreement.{At, Entered, Returns, feed, feed_of, helper_of, in_return, in_saved, in_slots, is_refused}
@@ -21,7 +21,6 @@ use Rattle.agreement.specs.Statement.Machine.Event.{visited}
 use Rattle.agreement.specs.Statement.Machine.Went.{helped, plainly}
 use Rattle.agreement.specs.Statement.Premises.{Enterable, Keeps, Layout, Typed, Unchanged}
 use Rattle.agreement.specs.X86.Decode.{Bytes}
-use Rattle.agreement.specs.X86.Decode.Operand.{mem}
 use Rattle.agreement.specs.X86.Encode.{bytes, encode}
 use Rattle.agreement.specs.X86.Form.{Alu.add, Instr, Instr.alu_imm32, Instr.call_rax, Instr.ret, Ok, RAX, RDI, RDX, RSP}
 use Rattle.agreement.specs.X86.Memory.{Memory, at, nth, overlay, read}

@@ -15,12 +15,11 @@ use lib.Pow.{pow_pos}
 use Rattle.agreement.specs.Riscv.Instruction.{bits_of, word}
 use Rattle.agreement.specs.Translation.Emit.{first_quotient, first_remainder, quotient_s, quotient_u, remainder_s, remainder_u, sign_extend_pair}
 use Rattle.agreement.specs.X86.Execute.{exec, width_bits}
-use Rattle.agreement.specs.X86.Flags.{alu_value, holds, sext}
-use Rattle.agreement.specs.X86.Form.Alu.{add, and, or, sub}
-use Rattle.agreement.specs.X86.Form.{Instr, Ok, R10, R11, RAX, RBX, RCX, RDX, Width}
-use Rattle.agreement.specs.X86.Form.Instr.{alu, alu_imm8, imul, mov, movsxd}
+use Rattle.agreement.specs.X86.Flags.{alu_value, sext}
+use Rattle.agreement.specs.X86.Form.Alu.{or}
+use Rattle.agreement.specs.X86.Form.{Instr, Ok, R10, R11, RAX, RBX, RDX, Width}
+use Rattle.agreement.specs.X86.Form.Instr.{alu_imm8, mov, movsxd}
 use Rattle.agreement.specs.X86.Form.Width.{r32, r64}
-use Rattle.agreement.specs.X86.Memory.{at}
 use Rattle.agreement.specs.X86.State.{Flags, State}
 use Rattle.agreement.specs.X86.Step.{past}
 use Rattle.agreement.proofs.Host.Fetching.{one}

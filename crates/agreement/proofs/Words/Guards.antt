@@ -17,7 +17,7 @@ use Rattle.agreement.specs.Translation.Emit.{division_s, division_u, skip_if}
 use Rattle.agreement.specs.X86.Encode.{bytes, encode}
 use Rattle.agreement.specs.X86.Execute.{division_faults, exec, faults, width_bits}
 use Rattle.agreement.specs.X86.Flags.{alu_flags, alu_value, as_signed, holds, logic_flags, negative, sext, sub_flags}
-use Rattle.agreement.specs.X86.Form.Alu.{and, cmp, or, xor}
+use Rattle.agreement.specs.X86.Form.Alu.{and, cmp, xor}
 use Rattle.agreement.specs.X86.Form.{Cc, Instr, MulDiv, Ok, R10, R11, RAX, RBX, RCX, RDX, Width}
 use Rattle.agreement.specs.X86.Form.Cc.{B, E}
 use Rattle.agreement.specs.X86.Form.Instr.{alu, alu_imm8, cqo, jcc, mov, mul_div}

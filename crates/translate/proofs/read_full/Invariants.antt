@@ -1,0 +1,9 @@
+-- No more is read than there is room for, and the room that is left falls.
+use Rattle.std.proofs.Common.{◌-◌, ◌≤◌, length}
+use Rattle.translate.proofs.read_full.Given as goal
+
+abbrev pub invariant-loop-done : goal.invariant-loop-done
+invariant-loop-done g l = l.done ≤ length l.buf
+
+abbrev pub decreases-loop-done : goal.decreases-loop-done
+decreases-loop-done g l = length l.initial.buf - l.done

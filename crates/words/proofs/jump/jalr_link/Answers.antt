@@ -1,0 +1,7 @@
+use Rattle.std.proofs.Common.{rules}
+use Rattle.emitter.proofs.WriteLaws.{writes}
+use Rattle.words.proofs.Joined.{at_other}
+use Rattle.words.proofs.jump.jalr_link.Goals as goal
+
+pub returns : goal.returns
+returns c = (at_other c.args.rd _ c.if-rd-eq0.false (search writes), search rules)
