@@ -5,20 +5,21 @@ ghost use Rattle.entry.specs.Index as Index;
 ghost use Rattle.requests.specs.Indexing.{indexing_of};
 ghost use Rattle.replay.specs.Kept.{entries_of, Fits, Keeps, Answers};
 
+use crate::output::Output;
 use entry::{Entry, NativeBlock};
 use index::{Found, Inserting};
-use libc::STDOUT_FILENO;
 use requests::Indexing;
+use std::io::Write;
 
 // The index is the first n entries.
-#[derive(Drop)]
+#[derive(Clone, Copy)]
 pub struct Kept {
     pub entries: [Entry; 64],
     pub n: usize,
 }
 
 // What is kept behind a line, and whether the line is a request.
-#[derive(Drop)]
+#[derive(Clone, Copy)]
 pub struct Answered {
     pub kept: Kept,
     pub good: bool,
@@ -46,19 +47,25 @@ fn put(kept: Kept, slot: usize, e: Entry) -> Kept
     Kept { entries, n }
 }
 
-fn print_inserting(inserting: Inserting) {
+fn print_inserting<W: Write>(inserting: Inserting, to: &mut Output<W>) {
     match inserting {
         Inserting::At { index } => {
-            io::write_all(STDOUT_FILENO, b"at ");
-            io::print_decimal(STDOUT_FILENO, index as u64);
+            to.print(format_args!("at {index}"));
         }
         Inserting::Full => {
-            io::write_all(STDOUT_FILENO, b"8");
+            to.write(b"8");
         }
     }
 }
 
-fn insert(kept: Kept, satp: u64, pc: u64, offset: usize, count: u32) -> Answered
+fn insert<W: Write>(
+    kept: Kept,
+    satp: u64,
+    pc: u64,
+    offset: usize,
+    count: u32,
+    to: &mut Output<W>,
+) -> Answered
     requires { kept.n ≤ 64 }
     ensures { (result.good ≡ true)
         × Keeps (Index.insert (entries_of kept) satp pc (record { offset = offset; count = count })) result.kept }
@@ -68,7 +75,7 @@ fn insert(kept: Kept, satp: u64, pc: u64, offset: usize, count: u32) -> Answered
     let block = NativeBlock { offset, count };
     let inserted = table::insert(entries, n, satp, pc, block);
     let inserting = inserted.inserting;
-    print_inserting(inserting);
+    print_inserting(inserting, to);
     let after = inserted.entries;
     let left = Kept { entries: after, n };
     Answered {
@@ -80,15 +87,15 @@ fn insert(kept: Kept, satp: u64, pc: u64, offset: usize, count: u32) -> Answered
 // The store's mark is lent as a number that is not 0.
 const MARK: usize = 4096;
 
-fn empty(kept: Kept) -> Answered
+fn empty<W: Write>(kept: Kept, to: &mut Output<W>) -> Answered
     requires { kept.n ≤ 64 }
     ensures { (result.good ≡ true) × Keeps (Index.empty (entries_of kept)) result.kept }
 {
     let n = kept.n;
     let entries = kept.entries;
     let emptied = table::empty(entries, n, MARK);
-    io::write_all(STDOUT_FILENO, b"mark ");
-    io::print_decimal(STDOUT_FILENO, emptied.used as u64);
+    let mark = emptied.used;
+    to.print(format_args!("mark {mark}"));
     let after = emptied.entries;
     let left = Kept { entries: after, n };
     Answered {
@@ -97,62 +104,57 @@ fn empty(kept: Kept) -> Answered
     }
 }
 
-fn print_entry(e: Entry) {
-    io::print_decimal(STDOUT_FILENO, e.in_use as u64);
-    io::write_all(STDOUT_FILENO, b",");
-    io::print_hex(STDOUT_FILENO, e.satp, 1);
-    io::write_all(STDOUT_FILENO, b",");
-    io::print_hex(STDOUT_FILENO, e.pc, 1);
-    io::write_all(STDOUT_FILENO, b",");
+fn print_entry<W: Write>(e: Entry, to: &mut Output<W>) {
     let block = e.block;
-    io::print_decimal(STDOUT_FILENO, block.offset as u64);
-    io::write_all(STDOUT_FILENO, b",");
-    io::print_decimal(STDOUT_FILENO, block.count as u64);
+    to.print(format_args!(
+        "{},{:x},{:x},{},{}",
+        e.in_use, e.satp, e.pc, block.offset, block.count
+    ));
 }
 
-fn print_found(found: Found) {
+fn print_found<W: Write>(found: Found, to: &mut Output<W>) {
     match found {
         Found::Shown { entry } => {
-            io::write_all(STDOUT_FILENO, b"found ");
-            print_entry(entry);
+            to.write(b"found ");
+            print_entry(entry, to);
         }
         Found::Nothing => {
-            io::write_all(STDOUT_FILENO, b"none");
+            to.write(b"none");
         }
     }
 }
 
-fn find(kept: Kept, satp: u64, pc: u64)
+fn find<W: Write>(kept: Kept, satp: u64, pc: u64, to: &mut Output<W>)
     requires { kept.n ≤ 64 }
 {
     let n = kept.n;
     let entries = kept.entries;
-    print_found(table::find(entries, n, satp, pc));
+    print_found(table::find(entries, n, satp, pc), to);
 }
 
-fn show(kept: Kept)
+fn show<W: Write>(kept: Kept, to: &mut Output<W>)
     requires { kept.n ≤ 64 }
 {
     let n = kept.n;
     let entries = kept.entries;
     for i in 0..n {
         if i > 0 {
-            io::write_all(STDOUT_FILENO, b" ");
+            to.write(b" ");
         }
-        print_entry(entries[i]);
+        print_entry(entries[i], to);
     }
 }
 
-fn ok() {
-    io::write_all(STDOUT_FILENO, b"ok");
+fn ok<W: Write>(to: &mut Output<W>) {
+    to.write(b"ok");
 }
 
 // An index of n entries of zeros takes the place of the one that is kept.
-fn new(n: usize) -> Answered
+fn new<W: Write>(n: usize, to: &mut Output<W>) -> Answered
     requires { n ≤ 64 }
     ensures { (result.good ≡ true) × Keeps (replicate n Index.blank) result.kept }
 {
-    ok();
+    ok(to);
     let kept = fresh(n);
     Answered { kept, good: true }
 }
@@ -170,26 +172,26 @@ fn entry_of(satp: u64, pc: u64, offset: usize, count: u32, in_use: u32) -> Entry
 }
 
 // Whether the slot is there; its entry is set as a caller would write it.
-fn set(kept: Kept, slot: usize, e: Entry) -> Answered
+fn set<W: Write>(kept: Kept, slot: usize, e: Entry, to: &mut Output<W>) -> Answered
     requires { kept.n ≤ 64 }
     ensures { (result.good ≡ ltb slot kept.n) × Keeps (ListN.set (entries_of kept) slot e) result.kept }
 {
     let good = slot < kept.n;
     if good {
-        ok();
+        ok(to);
     }
     let after = put(kept, slot, e);
     Answered { kept: after, good }
 }
 
 // Writes the reply to what is asked for.
-fn answer(asked: Indexing, kept: Kept) -> Answered
+fn answer<W: Write>(asked: Indexing, kept: Kept, to: &mut Output<W>) -> Answered
     requires fits { Fits asked }
     requires n_bound { kept.n ≤ 64 }
     ensures { Answers asked kept result }
 {
     match asked {
-        Indexing::New { n } => new(n),
+        Indexing::New { n } => new(n, to),
         Indexing::Set {
             slot,
             in_use,
@@ -199,21 +201,21 @@ fn answer(asked: Indexing, kept: Kept) -> Answered
             count,
         } => {
             let e = entry_of(satp, pc, offset, count, in_use);
-            set(kept, slot, e)
+            set(kept, slot, e, to)
         }
         Indexing::Insert {
             satp,
             pc,
             offset,
             count,
-        } => insert(kept, satp, pc, offset, count),
+        } => insert(kept, satp, pc, offset, count, to),
         Indexing::Find { satp, pc } => {
-            find(kept, satp, pc);
+            find(kept, satp, pc, to);
             Answered { kept, good: true }
         }
-        Indexing::Empty => empty(kept),
+        Indexing::Empty => empty(kept, to),
         Indexing::Show => {
-            show(kept);
+            show(kept, to);
             Answered { kept, good: true }
         }
         Indexing::NoRequest => Answered { kept, good: false },
@@ -221,10 +223,10 @@ fn answer(asked: Indexing, kept: Kept) -> Answered
 }
 
 // Writes the reply to a request.
-pub fn reply(line: &[u8], kept: Kept) -> Answered
+pub fn reply<W: Write>(line: &[u8], kept: Kept, to: &mut Output<W>) -> Answered
     requires { kept.n ≤ 64 }
     ensures { Answers (indexing_of line.now) kept result }
 {
     let asked = requests::read_indexing(line);
-    answer(asked, kept)
+    answer(asked, kept, to)
 }

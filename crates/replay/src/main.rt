@@ -22,21 +22,24 @@
 // them as a caller would; a `set` of one that is not there is no request. Other numbers are decimal. A line that is no request, or has over
 // 8,192 bytes, or asks for lent bytes of over 65,536, gets `bad request`, and the program goes on. Where lent bytes or a mark changed that
 // must not, or a cleared mark is not 0, `touched` is behind the reply. Each line is answered as it comes, so that another program can
-// ask and wait for the reply.
+// ask and wait for the reply. Where the input cannot be read or a reply cannot be written, the program ends with an error.
 #![tactic(auto)]
 
 mod decoding;
 mod indexing;
+mod output;
 mod placing;
 mod translation;
 
 ghost use Rattle.std.specs.Prelude.{◌≡◌, ◌<◌, ◌≤◌, length};
 
 use indexing::{Answered, Kept};
-use libc::{STDERR_FILENO, STDIN_FILENO, STDOUT_FILENO};
+use output::Output;
+use std::io;
+use std::io::{Read, Write};
 
 // Writes the reply to a request; whether the line is one, and the index behind it.
-fn reply(line: &[u8], kept: Kept) -> Answered
+fn reply<W: Write>(line: &[u8], kept: Kept, to: &mut Output<W>) -> Answered
     requires { kept.n ≤ 64 }
     ensures { result.kept.n ≤ 64 }
 {
@@ -48,37 +51,38 @@ fn reply(line: &[u8], kept: Kept) -> Answered
     }
     let good = match line[0] {
         b'I' => {
-            return indexing::reply(line, kept);
+            return indexing::reply(line, kept, to);
         }
-        b'D' => decoding::reply(line),
-        b'T' => translation::reply(line),
-        b'P' => placing::reply(line),
+        b'D' => decoding::reply(line, to),
+        b'T' => translation::reply(line, to),
+        b'P' => placing::reply(line, to),
         _ => false,
     };
     Answered { kept, good }
 }
 
 // A line that is too long is no request.
-fn reply_if_short(line: &[u8], used: usize, kept: Kept) -> Answered
+fn reply_if_short<W: Write>(line: &[u8], used: usize, kept: Kept, to: &mut Output<W>) -> Answered
     requires { kept.n ≤ 64 }
     ensures { result.kept.n ≤ 64 }
 {
     if used <= line.len() {
-        return reply(&line[..used], kept);
+        return reply(&line[..used], kept, to);
     }
     Answered { kept, good: false }
 }
 
 // Where the reply could be written the answer is good.
-fn end_of_line(line: &[u8], used: usize, kept: Kept) -> Answered
+fn end_of_line<W: Write>(line: &[u8], used: usize, kept: Kept, to: &mut Output<W>) -> Answered
     requires { kept.n ≤ 64 }
     ensures { result.kept.n ≤ 64 }
 {
-    let answered = reply_if_short(line, used, kept);
+    let answered = reply_if_short(line, used, kept, to);
     if !answered.good {
-        io::write_all(STDOUT_FILENO, b"bad request");
+        to.write(b"bad request");
     }
-    let written = io::write_all(STDOUT_FILENO, b"\n");
+    to.write(b"\n");
+    let written = to.is_written();
     let after = answered.kept;
     Answered {
         kept: after,
@@ -103,25 +107,25 @@ fn put(line: &mut [u8], n: usize, b: u8) -> usize
 }
 
 // The line so far, and the index behind the lines before it.
-#[derive(Drop)]
+#[derive(Clone, Copy)]
 struct State {
     used: usize,
     kept: Kept,
 }
 
-fn ended(line: &[u8], state: State) -> State
+fn ended<W: Write>(line: &[u8], state: State, to: &mut Output<W>) -> State
     requires { state.kept.n ≤ 64 }
     ensures { result.kept.n ≤ 64 }
 {
     let kept = state.kept;
-    let answered = end_of_line(line, state.used, kept);
+    let answered = end_of_line(line, state.used, kept, to);
     let after = answered.kept;
     let used = if answered.good { 0 } else { UNWRITABLE };
     State { used, kept: after }
 }
 
 // One byte more.
-fn step(line: &mut [u8], state: State, b: u8) -> State
+fn step<W: Write>(line: &mut [u8], state: State, b: u8, to: &mut Output<W>) -> State
     requires value { 8192 ≡ length line.old }
     requires n_bound { state.kept.n ≤ 64 }
     ensures { result.kept.n ≤ 64 }
@@ -130,44 +134,34 @@ fn step(line: &mut [u8], state: State, b: u8) -> State
         return state;
     }
     if b == b'\n' {
-        return ended(line, state);
+        return ended(line, state, to);
     }
     let kept = state.kept;
     let used = put(line, state.used, b);
     State { used, kept }
 }
 
-fn feed(text: &[u8], line: &mut [u8], state: State) -> State
+fn feed<W: Write>(text: &[u8], line: &mut [u8], state: State, to: &mut Output<W>) -> State
     requires value { 8192 ≡ length line.old }
     requires n_bound { state.kept.n ≤ 64 }
     ensures { result.kept.n ≤ 64 }
 {
     let mut s = state;
     for i in 0..text.len() {
-        s = step(line, s, text[i]);
+        s = step(line, s, text[i], to);
     }
     s
 }
 
-// The last line, which may lack its end. A program has no status to end with, so standard error tells.
-fn finish(line: &[u8], state: State)
+// The last line, which may lack its end. An error tells that the output cannot be written.
+fn finish<W: Write + Drop>(line: &[u8], state: State, mut to: Output<W>) -> io::Result<()>
     requires { state.kept.n ≤ 64 }
 {
     let used = state.used;
-    let written = if used == UNWRITABLE {
-        false
-    } else if used > 0 {
-        let last = ended(line, state);
-        last.used != UNWRITABLE
-    } else {
-        true
-    };
-    if !written {
-        io::write_all(
-            STDERR_FILENO,
-            b"replay: standard output cannot be written\n",
-        );
+    if used != UNWRITABLE && used > 0 {
+        ended(line, state, &mut to);
     }
+    to.close()
 }
 
 // The number of reads is bounded for the proof that the program ends: 2^64 - 1 of them is more than any input. None is left at the input's
@@ -185,8 +179,10 @@ fn reads_left(left: u64, n: usize, used: usize) -> u64
     left - 1
 }
 
-fn main() {
-    let mut buf = io::large_buffer();
+fn main(rt: HostRuntime) -> io::Result<()> {
+    let mut input = rt.stdin();
+    let mut to = Output::new(rt.stdout());
+    let mut buf = [0u8; 65536];
     let mut line = [0u8; 8192];
     let none = indexing::fresh(0);
     let mut state = State {
@@ -194,10 +190,19 @@ fn main() {
         kept: none,
     };
     let mut left = 0xFFFF_FFFF_FFFF_FFFFu64;
+    let mut read = Ok(());
     while left > 0 {
-        let n = io::count(libc::read(STDIN_FILENO, &mut buf), &buf);
-        state = feed(&buf[..n], &mut line, state);
+        // Where a read fails, what came before it is answered as at the input's end.
+        let n = match input.read(&mut buf) {
+            Ok(n) => n,
+            Err(e) => {
+                read = Err(io::Error::new(e.kind(), "replay: standard input cannot be read"));
+                0
+            }
+        };
+        state = feed(&buf[..n], &mut line, state, &mut to);
         left = reads_left(left, n, state.used);
     }
-    finish(&line, state);
+    finish(&line, state, to)?;
+    read
 }

@@ -2,7 +2,8 @@
 ghost use Rattle.std.specs.Prelude.{◌≡◌, ◌≤◌};
 ghost use Rattle.requests.specs.Lines.{is_placing};
 
-use libc::STDOUT_FILENO;
+use crate::output::Output;
+use std::io::Write;
 use store::Placing;
 
 // Another period than the store's pattern has, so that code at a wrong offset is seen.
@@ -33,60 +34,64 @@ fn is_copied(store: &[u8], offset: usize, code: &[u8]) -> bool {
 }
 
 // Prints the answer; whether the store and the mark are then as they must be.
-fn print_answer(placing: Placing, used: usize, mark: usize, code: &[u8], store: &[u8]) -> bool {
+fn print_answer<W: Write>(
+    placing: Placing,
+    used: usize,
+    mark: usize,
+    code: &[u8],
+    store: &[u8],
+    to: &mut Output<W>,
+) -> bool {
     match placing {
         Placing::Placed { offset, mark: end } => {
-            io::write_all(STDOUT_FILENO, b"placed ");
-            io::print_decimal(STDOUT_FILENO, offset as u64);
-            io::write_all(STDOUT_FILENO, b" ");
-            io::print_decimal(STDOUT_FILENO, end as u64);
+            to.print(format_args!("placed {offset} {end}"));
             let before = requests::is_untouched(store, 0, offset);
             let behind = requests::is_untouched(store, end, store.len());
             let copied = is_copied(store, offset, code);
             before && behind && copied && mark == end
         }
         Placing::Beyond => {
-            io::write_all(STDOUT_FILENO, b"6");
+            to.write(b"6");
             mark == used && requests::is_untouched(store, 0, store.len())
         }
         Placing::Full => {
-            io::write_all(STDOUT_FILENO, b"7");
+            to.write(b"7");
             mark == used && requests::is_untouched(store, 0, store.len())
         }
     }
 }
 
 // Whatever the mark has become, a store that is then cleared starts at 0 again.
-fn answer(used: usize, code: &mut [u8], store: &mut [u8]) {
+fn answer<W: Write>(used: usize, code: &mut [u8], store: &mut [u8], to: &mut Output<W>) {
     fill_code(code);
     requests::fill(store);
     let a = store::alloc_from(used, code, store);
     let placing = a.placing;
-    let kept = print_answer(placing, used, a.used, code, store);
+    let kept = print_answer(placing, used, a.used, code, store, to);
     let cleared = store::clear_from(a.used) == 0;
     if !(kept && cleared) {
-        io::write_all(STDOUT_FILENO, b" touched");
+        to.write(b" touched");
     }
 }
 
 // Lends a code and a store of the lengths that are asked for.
-fn lend(asked: requests::Placing)
+fn lend<W: Write>(asked: requests::Placing, to: &mut Output<W>)
     requires { (asked.code ≤ 65536) × (asked.store ≤ 65536) }
 {
     let n = asked.code;
     let room = asked.store;
-    let mut code = io::large_buffer();
-    let mut store = io::large_buffer();
-    answer(asked.used, &mut code[..n], &mut store[..room]);
+    let mut code = [0u8; 65536];
+    let mut store = [0u8; 65536];
+    answer(asked.used, &mut code[..n], &mut store[..room], to);
 }
 
 // Writes the reply to a request; whether the line is one.
-pub fn reply(line: &[u8]) -> bool
+pub fn reply<W: Write>(line: &[u8], to: &mut Output<W>) -> bool
     ensures { result ≡ is_placing line.now }
 {
     let asked = requests::read_placing(line);
     if asked.good {
-        lend(asked);
+        lend(asked, to);
     }
     asked.good
 }

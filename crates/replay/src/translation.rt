@@ -2,9 +2,10 @@
 ghost use Rattle.std.specs.Prelude.{◌≡◌, ◌%◌, ◌<◌, ◌≤◌};
 ghost use Rattle.requests.specs.Lines.{is_translation};
 
+use crate::output::Output;
 use block::Answer;
-use libc::STDOUT_FILENO;
 use requests::Translation;
+use std::io::Write;
 
 const DIGITS: [u8; 16] = *b"0123456789abcdef";
 
@@ -13,70 +14,64 @@ fn hex_digit(d: u8) -> u8 {
 }
 
 // Writes the text out when it is full; how much of it is used then.
-fn write_if_full(text: &[u8; 512], n: usize) -> usize
+fn write_if_full<W: Write>(text: &[u8; 512], n: usize, to: &mut Output<W>) -> usize
     requires { (n ≤ 512) × (n % 2 ≡ 0) }
     ensures { (result < 512) × (result % 2 ≡ 0) }
 {
     if n == 512 {
-        io::write_all(STDOUT_FILENO, text);
+        to.write(text);
         return 0;
     }
     n
 }
 
-fn print_bytes(code: &[u8]) {
+fn print_bytes<W: Write>(code: &[u8], to: &mut Output<W>) {
     let mut text = [0u8; 512];
     let mut n = 0usize;
     for i in 0..code.len() {
         let b = code[i];
         text[n] = hex_digit(b / 16);
         text[n + 1] = hex_digit(b % 16);
-        n = write_if_full(&text, n + 2);
+        n = write_if_full(&text, n + 2, to);
     }
-    io::write_all(STDOUT_FILENO, &text[..n]);
+    to.write(&text[..n]);
 }
 
-fn print_block(code: &[u8], count: u32) {
-    io::write_all(STDOUT_FILENO, b"block ");
-    io::print_decimal(STDOUT_FILENO, code.len() as u64);
-    io::write_all(STDOUT_FILENO, b" ");
-    io::print_decimal(STDOUT_FILENO, count as u64);
-    io::write_all(STDOUT_FILENO, b" ");
-    print_bytes(code);
+fn print_block<W: Write>(code: &[u8], count: u32, to: &mut Output<W>) {
+    let length = code.len();
+    to.print(format_args!("block {length} {count} "));
+    print_bytes(code, to);
 }
 
 // Prints the answer, and returns how many bytes of the output are the block's.
-fn print_answer(answer: Answer, out: &[u8]) -> usize {
+fn print_answer<W: Write>(answer: Answer, out: &[u8], to: &mut Output<W>) -> usize {
     match answer {
         Answer::Block { length, count } => {
             if length <= out.len() {
-                print_block(&out[..length], count);
+                print_block(&out[..length], count, to);
             }
             return length;
         }
         Answer::LimitZero => {
-            io::write_all(STDOUT_FILENO, b"1");
+            to.write(b"1");
         }
         Answer::OddStart(start) => {
-            io::write_all(STDOUT_FILENO, b"2 ");
-            io::print_hex(STDOUT_FILENO, start, 16);
+            to.print(format_args!("2 {start:016x}"));
         }
         Answer::Missing(index) => {
-            io::write_all(STDOUT_FILENO, b"3 ");
-            io::print_decimal(STDOUT_FILENO, index as u64);
+            to.print(format_args!("3 {index}"));
         }
         Answer::NotTaken(word) => {
-            io::write_all(STDOUT_FILENO, b"4 ");
-            io::print_hex(STDOUT_FILENO, word as u64, 8);
+            to.print(format_args!("4 {word:08x}"));
         }
         Answer::OutputShort => {
-            io::write_all(STDOUT_FILENO, b"5");
+            to.write(b"5");
         }
     }
     0
 }
 
-fn answer(asked: Translation, halfwords: &[u16], out: &mut [u8]) {
+fn answer<W: Write>(asked: Translation, halfwords: &[u16], out: &mut [u8], to: &mut Output<W>) {
     requests::fill(out);
     let answer = block::translate(
         asked.start,
@@ -86,30 +81,30 @@ fn answer(asked: Translation, halfwords: &[u16], out: &mut [u8]) {
         asked.helper_mem,
         out,
     );
-    let used = print_answer(answer, out);
+    let used = print_answer(answer, out, to);
     if !requests::is_untouched(out, used, out.len()) {
-        io::write_all(STDOUT_FILENO, b" touched");
+        to.write(b" touched");
     }
 }
 
 // Lends an output of the length that is asked for.
-fn lend(asked: Translation, halfwords: &[u16])
+fn lend<W: Write>(asked: Translation, halfwords: &[u16], to: &mut Output<W>)
     requires { asked.output ≤ 65536 }
 {
     let room = asked.output;
-    let mut out = io::large_buffer();
-    answer(asked, halfwords, &mut out[..room]);
+    let mut out = [0u8; 65536];
+    answer(asked, halfwords, &mut out[..room], to);
 }
 
 // Writes the reply to a request; whether the line is one.
-pub fn reply(line: &[u8]) -> bool
+pub fn reply<W: Write>(line: &[u8], to: &mut Output<W>) -> bool
     ensures { result ≡ is_translation 2048 line.now }
 {
     let mut halfwords = [0u16; 2048];
     let asked = requests::read_translation(line, &mut halfwords);
     if asked.good {
         let n = asked.count;
-        lend(asked, &halfwords[..n]);
+        lend(asked, &halfwords[..n], to);
     }
     asked.good
 }

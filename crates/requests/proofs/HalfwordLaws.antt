@@ -1,9 +1,8 @@
 -- Laws of a list of halfwords, for the loop that reads one.
-use mathlib.Core.Path.{◌≡◌, refl, sym, ap, ◌∙◌}
+use mathlib.Core.Path.{◌≡◌, sym, ap, ◌∙◌}
 use mathlib.Core.Bool.{true}
 use mathlib.Core.List.{List, [], ◌∷◌, ◌++◌}
 use Prim.Native.Nat.{ℕ, suc, ◌+◌, ◌-◌, ◌%◌, ◌<◌, ◌≤◌}
-use native.Mathlib.Nat.{sub-zero}
 use native.Mathlib.Numerals.{add-one}
 use native.Mathlib.Omega.{arith}
 use borrow.Author.Tests.{eq-eqb, ne_eqb, le-leb, lt-leb}
@@ -34,9 +33,6 @@ pub record Read (room : ℕ) (line : List ℕ) (from : ℕ) (lent : List ℕ) (n
   pub size : length lent ≡ room
   pub count : n ≤ room
   pub list : list_at room line from [] ≡ list_at (room - n) line at (take n lent)
-
-pub none_read : (line : List ℕ) (from : ℕ) (lent : List ℕ) → Read (length lent) line from lent 0 from
-none_read line from lent = record { size = refl; count = omega arith; list = rw sub-zero }
 
 module _ {room : ℕ} {line : List ℕ} {from : ℕ} {lent : List ℕ} {n at : ℕ} (read : Read room line from lent n at) where
   pub no_room : room ≤ n → list_at room line from [] ≡ no_list
@@ -98,3 +94,5 @@ module _ {room : ℕ} {line : List ℕ} {from : ℕ} {lent : List ℕ} {n at : �
                   next,
                 );
           }
+
+pub ruleset list_steps = (reads_none, no_room, no_halfword, at_another_byte, at_a_comma)

@@ -17,9 +17,6 @@ use Rattle.requests.specs.Indexing.{begins_with, next_at_most}
 pub record Seen (word line : List ℕ) (i : ℕ) : Type 0 where
   pub rest : begins_with word line ≡ begins_with (drop i word) (drop i line)
 
-pub none_seen : (word line : List ℕ) → Seen word line 0
-none_seen word line = record { rest = refl }
-
 module _ {word line : List ℕ} {i : ℕ} (seen : Seen word line i) where
   pub at_the_last : length word ≤ i → true ≡ begins_with word line
   unfolding begins_with
@@ -57,3 +54,5 @@ at_most {greatest} line field e = rw e (go (next_number 10 line field) (leb (nex
     go : (n : Field) (fits : Bool) → leb n.value greatest ≡ fits → (cond fits n (too_long n.next)).value ≤ greatest
     go n true f = leb-true n.value greatest f
     go n false f = omega arith
+
+pub ruleset word_steps = (at_the_last, at_the_end, at_another_byte, at_a_byte_of_it)

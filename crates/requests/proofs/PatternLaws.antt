@@ -6,10 +6,9 @@ use Prim.Native.Nat.{ℕ, zero, suc, ◌+◌, ◌-◌, ◌<◌, ◌≤◌}
 use native.Mathlib.Nat.{add-zero, le_of_suc-le-suc, not-suc-le-zero}
 use native.Mathlib.Numerals.{add-one}
 use native.Mathlib.Omega.{arith}
-use borrow.Author.Count.{below_more}
 use borrow.Author.Tests.{eq-eqb, ne_eqb}
-use lib.ListN.{length, take, drop, get_or, set, length-set, drop_of_length-le}
-use lib.Seq.{take-nil, drop-cons, get_or-set_same, get_or-set_other, ext_get_or}
+use lib.ListN.{length, take, drop, get_or, drop_of_length-le}
+use lib.Seq.{take-nil, drop-cons, ext_get_or}
 use Rattle.requests.specs.Pattern.{pattern_byte, pattern_from, patterned, is_pattern_from, is_untouched}
 
 length_pattern : (i n : ℕ) → length (pattern_from i n) ≡ n
@@ -29,20 +28,7 @@ pub record Filled (before bytes : List ℕ) (i : ℕ) : Type 0 where
   pub reached : i ≤ length before
   pub each : (k : ℕ) → k < i → get_or bytes k 0 ≡ pattern_byte k
 
-pub none_filled : (bytes : List ℕ) → Filled bytes bytes 0
-none_filled bytes = record { size = refl; reached = omega arith; each = λ k p. absurd (not-suc-le-zero p) }
-
 module _ {before bytes : List ℕ} {i : ℕ} (filled : Filled before bytes i) where
-  pub one_more_filled : {b : ℕ} → i < length bytes → b ≡ pattern_byte i → Filled before (set bytes i b) (i + 1)
-  one_more_filled {b} p e = record {
-    size = length-set bytes i b ∙ filled.size;
-    reached = omega arith;
-    each =
-        below_more (λ k. get_or (set bytes i b) k 0 ≡ pattern_byte k) i
-        (λ k q. get_or-set_other bytes i k b 0 (λ h. omega arith) ∙ filled.each k q)
-        (get_or-set_same bytes i b 0 p ∙ e);
-  }
-
   pub all_filled : length bytes ≤ i → bytes ≡ patterned (length before)
   all_filled p =
       ext_get_or 0 bytes (patterned (length before)) (filled.size ∙ sym (length_pattern 0 (length before)))
@@ -78,3 +64,5 @@ module _ {bytes : List ℕ} {from to i : ℕ} (kept : Kept bytes from to i) wher
     pub at_a_kept_byte : get_or bytes i 0 ≡ pattern_byte i → Kept bytes from to (i + 1)
     unfolding is_pattern_from
     at_a_kept_byte p = record { rest = rw (kept.rest, next_byte, eq-eqb (get_or bytes i 0) (pattern_byte i) p) }
+
+pub ruleset kept_steps = (none_seen, at_the_end, at_the_last, at_a_change, at_a_kept_byte)

@@ -5,13 +5,14 @@ ghost use Rattle.requests.specs.Lines.{is_decoding_of, decoding_of};
 use crate::fields;
 use crate::fields::Field;
 
-#[derive(Drop)]
+#[derive(Clone, Copy)]
 pub struct Decoding {
     pub word: u32,
     pub good: bool,
 }
 
 // A word has 32 bits.
+#[tactic(auto, unfolding(crate::specs::Lines::is_decoding_of))]
 fn is_decoding(line: &[u8], word: Field) -> bool
     ensures { result ≡ is_decoding_of line.now word }
 {

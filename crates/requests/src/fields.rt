@@ -3,7 +3,7 @@ ghost use Rattle.std.specs.Prelude.{◌≡◌, ◌<◌};
 ghost use Rattle.requests.specs.Fields.{digit_of, number_at, index_behind, next_number, is_last};
 
 // A number, the index behind it, and whether there is one: a digit at least, and not too many of them.
-#[derive(Drop)]
+#[derive(Clone, Copy)]
 pub struct Field {
     pub value: u64,
     pub next: usize,
@@ -11,6 +11,7 @@ pub struct Field {
 }
 
 // The value of a hexadecimal digit, 16 for any other byte.
+#[tactic(auto, unfolding(crate::specs::Fields::digit_of))]
 fn digit(b: u8) -> u8
     ensures { result ≡ digit_of b }
 {
@@ -23,6 +24,7 @@ fn digit(b: u8) -> u8
 }
 
 // Digits are read as long as there are any; at the digit with which the number would have over 64 bits there is no number.
+#[tactic(auto, using(crate::proofs::DigitLaws::number_steps))]
 fn number(base: u64, line: &[u8], from: usize) -> Field
     requires { 0 < base }
     ensures { result ≡ number_at base line.now from }
@@ -69,6 +71,7 @@ pub fn decimal(line: &[u8], from: usize) -> Field
 
 // The index behind a number and its space. Where one of them is missing this is the line's end, at which there is no number:
 // so only the last field of a line has to be asked whether it is good.
+#[tactic(auto, unfolding(crate::specs::Fields::index_behind))]
 pub fn behind(line: &[u8], field: Field) -> usize
     ensures { result ≡ index_behind line.now field }
 {
@@ -83,6 +86,7 @@ pub fn behind(line: &[u8], field: Field) -> usize
     line.len()
 }
 
+#[tactic(auto, unfolding(crate::specs::Fields::next_number))]
 fn next_number(base: u64, line: &[u8], field: Field) -> Field
     requires { 0 < base }
     ensures { result ≡ next_number base line.now field }
@@ -103,6 +107,7 @@ pub fn next_decimal(line: &[u8], field: Field) -> Field
 }
 
 // Whether a number is there, and the line's end behind it.
+#[tactic(auto, unfolding(crate::specs::Fields::is_last))]
 pub fn is_last(line: &[u8], field: Field) -> bool
     ensures { result ≡ is_last line.now field }
 {

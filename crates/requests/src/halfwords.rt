@@ -5,7 +5,7 @@ ghost use Rattle.requests.specs.Halfwords.{no_list, run_of, Reads, is_dash, list
 use crate::fields;
 
 // How many halfwords there are, and whether there is a list.
-#[derive(Drop)]
+#[derive(Clone, Copy)]
 pub struct Run {
     pub count: usize,
     pub good: bool,
@@ -21,6 +21,7 @@ fn no_list() -> Run
 }
 
 // A list of more halfwords than are lent is no list.
+#[tactic(auto, using(crate::proofs::HalfwordLaws::list_steps))]
 fn read_list(line: &[u8], from: usize, halfwords: &mut [u16]) -> Run
     ensures { Reads (list_at (length halfwords.old) line.now from []) halfwords.new result }
 {
@@ -51,6 +52,7 @@ fn read_list(line: &[u8], from: usize, halfwords: &mut [u16]) -> Run
     no_list()
 }
 
+#[tactic(auto, unfolding(crate::specs::Halfwords::is_dash))]
 fn is_dash(line: &[u8], at: usize) -> bool
     ensures { result ≡ is_dash line.now at }
 {
@@ -62,6 +64,7 @@ fn is_dash(line: &[u8], at: usize) -> bool
     false
 }
 
+#[tactic(auto, unfolding(crate::specs::Halfwords::run_at))]
 pub fn read_run(line: &[u8], at: usize, halfwords: &mut [u16]) -> Run
     ensures { Reads (run_at (length halfwords.old) line.now at) halfwords.new result }
 {

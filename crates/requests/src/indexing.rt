@@ -7,7 +7,7 @@ ghost use Rattle.requests.specs.Indexing.{new_of, set_of, insert_of, find_of, in
 use crate::fields;
 use crate::fields::Field;
 
-#[derive(Drop)]
+#[derive(Clone, Copy)]
 pub enum Indexing {
     New {
         n: usize,
@@ -41,6 +41,7 @@ const ENTRIES: u64 = 64;
 // The greatest number of 32 bits.
 const GREATEST_U32: u64 = 0xFFFF_FFFF;
 
+#[tactic(auto, using(crate::proofs::IndexingLaws::word_steps))]
 fn begins_with(line: &[u8], word: &[u8]) -> bool
     ensures { result ≡ begins_with word.now line.now }
 {
@@ -58,6 +59,7 @@ fn begins_with(line: &[u8], word: &[u8]) -> bool
 }
 
 // The word as a field, so that the number behind it is read like the number behind another.
+#[tactic(auto, unfolding(crate::specs::Indexing::word_of))]
 fn word_of(line: &[u8], word: &[u8]) -> Field
     ensures { result ≡ word_of word.now line.now }
 {
@@ -70,6 +72,7 @@ fn word_of(line: &[u8], word: &[u8]) -> Field
 }
 
 // A number above the greatest is none: so no field behind it is good either.
+#[tactic(auto, unfolding(crate::specs::Indexing::next_at_most))]
 fn next_at_most(greatest: u64, line: &[u8], field: Field) -> Field
     ensures { result ≡ next_at_most greatest line.now field }
 {
@@ -84,6 +87,7 @@ fn next_at_most(greatest: u64, line: &[u8], field: Field) -> Field
     }
 }
 
+#[tactic(auto, unfolding(crate::specs::Indexing::request_if))]
 fn request_if(good: bool, request: Indexing, other: Indexing) -> Indexing
     ensures { result ≡ request_if good request other }
 {
@@ -91,6 +95,7 @@ fn request_if(good: bool, request: Indexing, other: Indexing) -> Indexing
 }
 
 // What the line asks for; `other` where its word is another or a field is missing. So for each word below.
+#[tactic(auto, unfolding(crate::specs::Indexing::new_of))]
 fn read_new(line: &[u8], other: Indexing) -> Indexing
     ensures { result ≡ new_of line.now other }
 {
@@ -103,6 +108,7 @@ fn read_new(line: &[u8], other: Indexing) -> Indexing
     request_if(good, request, other)
 }
 
+#[tactic(auto, unfolding(crate::specs::Indexing::set_of))]
 fn read_set(line: &[u8], other: Indexing) -> Indexing
     ensures { result ≡ set_of line.now other }
 {
@@ -125,6 +131,7 @@ fn read_set(line: &[u8], other: Indexing) -> Indexing
     request_if(good, request, other)
 }
 
+#[tactic(auto, unfolding(crate::specs::Indexing::insert_of))]
 fn read_insert(line: &[u8], other: Indexing) -> Indexing
     ensures { result ≡ insert_of line.now other }
 {
@@ -143,6 +150,7 @@ fn read_insert(line: &[u8], other: Indexing) -> Indexing
     request_if(good, request, other)
 }
 
+#[tactic(auto, unfolding(crate::specs::Indexing::find_of))]
 fn read_find(line: &[u8], other: Indexing) -> Indexing
     ensures { result ≡ find_of line.now other }
 {

@@ -19,6 +19,7 @@ pub fn fill(bytes: &mut [u8])
 }
 
 // Whether the bytes from one index to another, or to the end, are as they were filled.
+#[tactic(auto, using(crate::proofs::PatternLaws::kept_steps))]
 pub fn is_untouched(bytes: &[u8], from: usize, to: usize) -> bool
     ensures { result ≡ is_untouched bytes.now from to }
 {

@@ -5,7 +5,7 @@ ghost use Rattle.requests.specs.Lines.{is_placing_of, placing_of};
 use crate::fields::Field;
 use crate::{LENT, fields};
 
-#[derive(Drop)]
+#[derive(Clone, Copy)]
 pub struct Placing {
     pub used: usize,
     pub store: usize,
@@ -13,6 +13,7 @@ pub struct Placing {
     pub good: bool,
 }
 
+#[tactic(auto, unfolding(crate::specs::Lines::is_placing_of))]
 fn is_placing(line: &[u8], store: Field, code: Field) -> bool
     ensures { result ≡ is_placing_of line.now store code }
 {

@@ -6,7 +6,7 @@ use crate::fields::Field;
 use crate::halfwords::Run;
 use crate::{LENT, fields, halfwords};
 
-#[derive(Drop)]
+#[derive(Clone, Copy)]
 pub struct Translation {
     pub start: u64,
     pub limit: u32,
@@ -18,6 +18,7 @@ pub struct Translation {
 }
 
 // A limit has 32 bits.
+#[tactic(auto, unfolding(crate::specs::Lines::is_translation_of))]
 fn is_translation(limit: Field, output: Field, run: Run) -> bool
     ensures { result ≡ is_translation_of limit output run }
 {
