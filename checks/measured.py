@@ -32,20 +32,16 @@ CHUNK = 200
 
 # The module's beginning; `kind` says which flags are compared: 0 none, 1 CF and OF, 2 all, 3 all but AF, 4 all but AF and OF.
 HEAD = """-- Measured on a processor.
-use mathlib.Core.Bool.{Bool, _&&_, cond, false, not, true}
-use mathlib.Core.List.{List, [], _∷_}
-use mathlib.Core.Option.{Option, none, some}
-use mathlib.Core.Path.{_≡_, refl}
-use Prim.Native.Nat.{ℕ}
-use lib.Dec.{eqb}
-use Rattle·agreement·specs.specs.X86.Decode.{aluOf, ccOf, decode, imm, loaded, memory, modrm, moved, mulDivOf, onReg, only, opcode0F}
-use Rattle·agreement·specs.specs.X86.Decode.{opcode1, pick, shiftOf, widthOf}
-use Rattle·agreement·specs.specs.X86.Execute.{accesses, divisionFaults, exec, faults}
-use Rattle·agreement·specs.specs.X86.Flags.{addFlags, aluFlags, aluValue, asBits, asSigned, evenOnes, holds, imulFlags, logicFlags, ones}
-use Rattle·agreement·specs.specs.X86.Flags.{sext, shiftFlags, shiftOverflow, shifted, shiftedOut, smulFlags, subFlags, umulFlags}
-use Rattle·agreement·specs.specs.X86.Memory.{nth}
-use Rattle·agreement·specs.specs.X86.State.{Flags, State}
-use Rattle·agreement·specs.specs.X86.Step.{all, cut, did, fetched, next, past, step}
+use Rattle.std.proofs.Common.{◌≡◌, ℕ, Bool, true, false, cond, not, ◌&&◌, eqb, List, [], ◌∷◌, refl}
+use Rattle.std.proofs.Math.Option.{Option, none, some}
+use Rattle.agreement.specs.X86.Decode.{alu_of, cc_of, decode, imm, loaded, memory, modrm, moved, mul_div_of, on_reg, only, opcode1}
+use Rattle.agreement.specs.X86.Decode.{opcode_0f, pick, shift_of, width_of}
+use Rattle.agreement.specs.X86.Execute.{accesses, division_faults, exec, faults}
+use Rattle.agreement.specs.X86.Flags.{add_flags, alu_flags, alu_value, as_bits, as_signed, even_ones, holds, imul_flags, logic_flags}
+use Rattle.agreement.specs.X86.Flags.{ones, sext, shift_flags, shift_overflow, shifted, shifted_out, smul_flags, sub_flags, umul_flags}
+use Rattle.agreement.specs.X86.Memory.{nth}
+use Rattle.agreement.specs.X86.State.{Flags, State}
+use Rattle.agreement.specs.X86.Step.{all, cut, did, fetched, next, past, step}
 
 abbrev f : Bool → Bool → Bool → Bool → Bool → Bool → Flags
 f c p a z s o = record { cf = c; pf = p; af = a; zf = z; sf = s; of = o }
@@ -71,10 +67,10 @@ m b k s t = record { bytes = b; kind = k; before = s; after = t }
 abbrev same : Bool → Bool → Bool
 same a b = cond a b (not b)
 
-abbrev sameFlags : ℕ → Flags → Flags → Bool
-sameFlags k a b = cond (eqb k 0) true (same (a .cf) (b .cf) && (cond (eqb k 4) true (same (a .of) (b .of))
-    && cond (eqb k 1) true (same (a .pf) (b .pf) && (cond (eqb k 2) (same (a .af) (b .af)) true
-    && (same (a .zf) (b .zf) && same (a .sf) (b .sf))))))
+abbrev same_flags : ℕ → Flags → Flags → Bool
+same_flags k a b = cond (eqb k 0) true (same a.cf b.cf && (cond (eqb k 4) true (same a.of b.of)
+    && cond (eqb k 1) true (same a.pf b.pf && (cond (eqb k 2) (same a.af b.af) true
+    && (same a.zf b.zf && same a.sf b.sf)))))
 
 -- RAX, RCX, RDX, R10, R11 by number; the others do not occur
 abbrev place : ℕ → ℕ
@@ -83,23 +79,24 @@ place r = cond (eqb r 10) 3 (cond (eqb r 11) 4 r)
 abbrev agrees : Measured → Bool
 agrees v = by (step (λ s. f false false false false false false)
     (record { fetch = λ a. true; read = λ a. false; write = λ a. false })
-    (record { regs = λ r. nth (v .before .regs) (place r); flags = v .before .flags; rip = 0; mem = nth (v .bytes) })) (v .after)
+    (record { regs = λ r. nth v.before.regs (place r); flags = v.before.flags; rip = 0; mem = nth v.bytes })) v.after
   where
     by : Option (State × List ℕ) → Option Seen → Bool
     by none none = true
     by none (some t) = false
     by (some s) none = false
-    by (some s) (some t) = sameFlags (v .kind) (s .0 .flags) (t .flags) && (eqb (s .0 .rip) (t .rip)
-        && (eqb (s .0 .regs 0) (nth (t .regs) 0) && (eqb (s .0 .regs 1) (nth (t .regs) 1) && (eqb (s .0 .regs 2) (nth (t .regs) 2)
-        && (eqb (s .0 .regs 10) (nth (t .regs) 3) && eqb (s .0 .regs 11) (nth (t .regs) 4))))))
+    by (some s) (some t) = same_flags v.kind s.0.flags t.flags && (eqb s.0.rip t.rip
+        && (eqb (s.0.regs 0) (nth t.regs 0) && (eqb (s.0.regs 1) (nth t.regs 1) && (eqb (s.0.regs 2) (nth t.regs 2)
+        && (eqb (s.0.regs 10) (nth t.regs 3) && eqb (s.0.regs 11) (nth t.regs 4))))))
 
-abbrev allAgree : List Measured → Bool
-allAgree [] = true
-allAgree (v ∷ vs) = agrees v && allAgree vs
+abbrev all_agree : List Measured → Bool
+all_agree [] = true
+all_agree (v ∷ vs) = agrees v && all_agree vs
 """
-UNFOLDING = ("unfolding step did past next cut fetched all decode pick only opcode1 opcode0F modrm mulDivOf aluOf ccOf shiftOf imm moved "
-             "memory loaded onReg widthOf accesses nth faults divisionFaults asSigned asBits exec umulFlags smulFlags sext aluValue "
-             "aluFlags addFlags subFlags logicFlags evenOnes ones shifted shiftFlags shiftedOut shiftOverflow imulFlags holds")
+UNFOLDING = ("unfolding step did past next cut fetched all decode pick only opcode1 opcode_0f modrm mul_div_of alu_of cc_of shift_of imm "
+             "moved memory loaded on_reg width_of accesses nth faults division_faults as_signed as_bits exec umul_flags smul_flags sext "
+             "alu_value alu_flags add_flags sub_flags logic_flags even_ones ones shifted shift_flags shifted_out shift_overflow "
+             "imul_flags holds")
 
 
 def kind(name):
@@ -167,7 +164,7 @@ def module(vectors):
         name = f"measured{k // CHUNK}"
         part = "\n    ∷ ".join(vectors[k:k + CHUNK])
         text += f"\n{name} : List Measured\n{name} =\n    {part} ∷ []\n"
-        text += f"\n{name}-agree : allAgree {name} ≡ true\n{UNFOLDING} {name}\n{name}-agree = refl\n"
+        text += f"\n{name}_agree : all_agree {name} ≡ true\n{UNFOLDING} {name}\n{name}_agree = refl\n"
     return text
 
 
@@ -180,14 +177,17 @@ def spoiled(text):
 
 def proved(text):
     """Whether the crate is proved with this module in it, and what `rt` said."""
-    with tempfile.TemporaryDirectory() as folder:
-        crate = os.path.join(folder, "agreement")
+    with tempfile.TemporaryDirectory() as root:
+        with open(os.path.join(root, "crates.txt"), "w", encoding="utf-8") as file:
+            file.write("agreement:\n")
+        crate = os.path.join(root, "crates", "agreement")
+        # With what an earlier check kept in out/, so that little more than the module is checked.
         shutil.copytree(CRATE, crate)
         with open(os.path.join(crate, "proofs", "Checks", "Measured.antt"), "w", encoding="utf-8") as file:
             file.write(text)
         with open(os.path.join(crate, "proofs", "Checks.antt"), "a", encoding="utf-8") as file:
             file.write("pub mod Measured\n")
-        run = subprocess.run(["rt", "check", crate], stdout=subprocess.PIPE, stderr=subprocess.STDOUT, text=True, check=False)
+        run = subprocess.run(["rt", "check"], cwd=crate, stdout=subprocess.PIPE, stderr=subprocess.STDOUT, text=True, check=False)
     return run.returncode == 0 and "logic=proved" in run.stdout, run.stdout
 
 

@@ -20,16 +20,19 @@ PARTS = (
 HEAD = """# Modules
 
 Every file of the crates, with the first sentence of its first comment. Made by `checks/modules.py`; `cargo test` in rust/ compares it.
-Files that only list other files are left out. A file `proofs/F/Proof.antt` is the proof of the function F: it is listed where it has a
-comment, and else counted.
+Files that only list other files are left out. What is written of the proof of a function F stands in the folder `proofs/F`, as
+Invariants.antt, Answers.antt or Proof.antt: such a file is listed where it has a comment, and functions with none of these are counted.
+A function with no such folder is proved by the kit alone.
 """
+# What a function's folder may have.
+OF_FUNCTIONS = ("Answers.antt", "Invariants.antt", "Proof.antt")
 
 
 def crates():
     """The crates in the order of crates.txt."""
     with open(os.path.join(ROOT, "crates.txt"), encoding="utf-8") as file:
         lines = (line.split("#")[0].strip() for line in file)
-        return [line.split(":")[0].strip() for line in lines if line]
+        return [line.split(":")[0].split()[0] for line in lines if line]
 
 
 def files(folder):
@@ -42,10 +45,12 @@ def files(folder):
 
 
 def sentence(path):
-    """The first sentence of the comment at a file's top, or nothing."""
+    """The first sentence of the comment at a file's top, or nothing. Settings of a whole crate, `#![..]`, may stand above it."""
     words = []
     with open(path, encoding="utf-8") as file:
         for line in file:
+            if not words and (not line.strip() or line.startswith("#![")):
+                continue
             comment = re.match(r"(?:--|//) ?(.*)", line)
             if not comment or (words and not comment.group(1).strip()):
                 break
@@ -63,19 +68,21 @@ def lists_only(path):
 def part(crate, folder, title):
     """The lines of one folder of a crate."""
     top = os.path.join(ROOT, "crates", crate, folder)
-    lines, bare = [], 0
+    lines, listed, bare = [], set(), set()
     for path in files(top):
+        name = os.path.splitext(os.path.relpath(path, top))[0]
+        function = os.path.dirname(name) if folder == "proofs" and os.path.basename(path) in OF_FUNCTIONS else ""
         text = sentence(path)
         if text:
-            name = os.path.splitext(os.path.relpath(path, top))[0]
             lines.append(f"| {name} | {text} |")
-        elif os.path.basename(path) == "Proof.antt":
-            bare += 1
+            listed.add(function)
+        elif function:
+            bare.add(function)
         elif not lists_only(path):
             sys.exit(f"{os.path.relpath(path, ROOT)}: no comment at its top")
-    if bare:
-        what = "further proofs of functions" if bare > 1 else "further proof of a function"
-        lines.append(f"| F/Proof | {bare} {what} |")
+    if further := len(bare - listed):
+        what = "further proofs of functions" if further > 1 else "further proof of a function"
+        lines.append(f"| F | {further} {what} |")
     return ["", f"| {title}: {folder}/ | |", "|---|---|"] + lines if lines else []
 
 
