@@ -1,14 +1,14 @@
 #!/usr/bin/env python3
 """The index of blocks (Q-4), held against the request's text. Not part of the gate; its lines in crates/replay are.
 
-    checks/index.py                 the table below, the lines of crates/replay, and 200,000 random lines asked of target/bin/replay
+    checks/index.py                 the table below, the lines of crates/replay, and 200,000 random lines asked of the program replay
     checks/index.py --lines N       so many random lines
     checks/index.py --spoil         every reply that the program gives is changed, and each must be noticed
     checks/index.py --write         writes the I lines of crates/replay/stdin and stdout anew
 
 The original Rust keeps a map, which has no entries and is never full, so the judges are a table of replies typed by hand from the request's text; `Entries`, which does
 what the text says to a list; and, where a slice began with none in use and was written by inserts and empties alone, a dictionary, which
-has neither slots nor marks. Nothing of this repository's code is read. `rt check replay` at the repository's root builds the program.
+has neither slots nor marks. Nothing of this repository's code is read. `rt run < stdin` in crates/replay leaves the program at out/replay.
 """
 import os
 import random
@@ -18,7 +18,7 @@ import sys
 
 ROOT = os.path.dirname(os.path.dirname(os.path.abspath(__file__)))
 REPLAY = os.path.join(ROOT, "crates", "replay")
-PROGRAM = os.path.join(ROOT, "target", "bin", "replay")
+PROGRAM = os.path.join(REPLAY, "out", "replay")
 BAD = "bad request"
 MOST = 64
 

@@ -3,8 +3,8 @@
 
     checks/outsiders.py [--seed N] [--blocks N] [--runs N] [--programs N] [--pairs N] [--spoil]
 
-Needs the programs translate and, for the third part, replay (`rt check translate` and `rt check replay` at the repository's root build them
-into target/bin), objdump (binutils) for the first part, and an x86-64 Linux with qemu-riscv64 (Debian: qemu-user) for the others;
+Needs the programs translate and, for the third part, replay (`rt run < stdin` in crates/translate and in crates/replay leaves each in that
+folder's out/), objdump (binutils) for the first part, and an x86-64 Linux with qemu-riscv64 (Debian: qemu-user) for the others;
 QEMU_RISCV64 may name the latter. A part whose tool is missing, or of which no run is asked for, is skipped and says so.
 
 1. objdump: random runs are translated, and objdump reads the blocks. Instruction boundaries must meet every block's start and
@@ -47,8 +47,8 @@ import muldiv
 from replies import is_fence_i
 
 ROOT = os.path.dirname(os.path.dirname(os.path.abspath(__file__)))
-TRANSLATE = os.path.join(ROOT, "target", "bin", "translate")
-REPLAY = os.path.join(ROOT, "target", "bin", "replay")
+TRANSLATE = os.path.join(ROOT, "crates", "translate", "out", "translate")
+REPLAY = os.path.join(ROOT, "crates", "replay", "out", "replay")
 START = 0x80000000
 M64 = (1 << 64) - 1
 
@@ -777,7 +777,7 @@ def parts(options):
     if options.programs == 0 or missing:
         skipped("changed code", missing or "no program is asked for")
     elif not os.access(REPLAY, os.X_OK):
-        skipped("changed code", "target/bin/replay is not there: `rt check replay` builds it")
+        skipped("changed code", "crates/replay/out/replay is not there: `rt run < stdin` in crates/replay builds it")
     else:
         words = Words(random.Random(options.seed + 2))
         found.append(("changed code", lambda: check_changed_code(qemu, words, options.programs, options.spoil)))
@@ -798,7 +798,7 @@ def main():
     parser.add_argument("--spoil", action="store_true", help="change one thing in each part, which must be noticed")
     options = parser.parse_args()
     if not os.access(TRANSLATE, os.X_OK):
-        print("target/bin/translate is not there: `rt check translate` at the repository's root builds it")
+        print("crates/translate/out/translate is not there: `rt run < stdin` in crates/translate builds it")
         return 2
     asked = parts(options)
     wrong = 0
