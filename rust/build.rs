@@ -72,7 +72,8 @@ fn build() -> PathBuf {
 /// Names to cargo the files that `rt` reads: the list of crates, and code, definitions and proofs of each. A crate's out/, which `rt`
 /// writes, is not among them: else cargo would run this again each time.
 fn watch(root: &Path) {
-    println!("cargo:rerun-if-changed={}", root.join("crates.txt").display());
+    let list = root.join("crates.txt");
+    println!("cargo:rerun-if-changed={}", list.display());
     let crates = match fs::read_dir(root.join("crates")) {
         Ok(crates) => crates,
         Err(error) => stop(&format!("cannot read the folder crates: {error}")),

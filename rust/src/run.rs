@@ -45,7 +45,7 @@ pub fn word_kind(instr: u32) -> WordKind {
 
 /// The guest's code from an address on, no more of it than a translation needs.
 ///
-/// A translation of these halfwords is the translation of all that could have been fetched (`needs-no-more`, proved in the
+/// A translation of these halfwords is the translation of all that could have been fetched (`needs_no_more`, proved in the
 /// repository's crate agreement).
 #[derive(Clone, Debug)]
 pub struct Run {
