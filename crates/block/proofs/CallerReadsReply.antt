@@ -1,9 +1,5 @@
 -- What a caller of `translate` reads off its answer and the output is the definition's reply.
-use mathlib.Core.Path.{◌≡◌, refl, ap, ◌∙◌}
-use mathlib.Core.List.{List}
-use Prim.Native.Nat.{ℕ}
-use native.Mathlib.Omega.{arith}
-use lib.ListN.{length, take}
+use Rattle.std.proofs.Common.{◌≡◌, refl, ap, ◌∙◌, List, ℕ, arith, length, take}
 use lib.Seq.{take-append_seam}
 use Rattle.agreement.specs.Translation.Replies.{Reply, numbered, output_after}
 use Rattle.agreement.specs.Translation.Replies.Reply.{block, refusal}

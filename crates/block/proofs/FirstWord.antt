@@ -1,10 +1,5 @@
 -- The test of the first word (crate agreement, Translation/Replies) by what stands at the front of the run.
-use mathlib.Core.Path.{◌≡◌, refl, ap, ◌∙◌}
-use mathlib.Core.Bool.{Bool, true, false, cond}
-use mathlib.Core.List.{List, [], ◌∷◌}
-use Prim.Native.Nat.{ℕ}
-use lib.Bits.{bit_and}
-use lib.Dec.{eqb}
+use Rattle.std.proofs.Common.{◌≡◌, refl, ap, ◌∙◌, Bool, true, false, cond, List, [], ◌∷◌, ℕ, bit_and, eqb}
 use Rattle.agreement.specs.Translation.Decode32.{word_of}
 use Rattle.agreement.specs.Translation.Kind.{kind, kind_number}
 use Rattle.agreement.specs.Translation.Replies.{First, First.begins, First.lacks, first, first_word}

@@ -1,15 +1,6 @@
 -- The replies of crate agreement (Translation/Replies), one law for each way through their tests, and the answers that give them.
-use mathlib.Core.Path.{◌≡◌, refl, sym, ap, ◌∙◌, subst}
-use mathlib.Core.Bool.{Bool, true, false}
-use mathlib.Core.Logic.{◌≢◌}
-use mathlib.Core.List.{List}
-use Prim.Native.Nat.{ℕ, ◌%◌, ◌<◌, ◌≤◌, min}
-use native.Mathlib.Nat.{zero-add}
-use native.Mathlib.Omega.{arith}
-use borrow.Author.Tests.{eq-eqb, ne_eqb, lt-ltb, le-ltb}
-use lib.Dec.{eqb}
-use lib.ListN.{length}
-use lib.Seq.{length-take-le}
+use Rattle.std.proofs.Common.{◌≡◌, refl, sym, ap, ◌∙◌, subst, Bool, true, false, ◌≢◌, List, ℕ, ◌%◌, ◌<◌, ◌≤◌, min, zero-add, arith, eq-eqb}
+use Rattle.std.proofs.Common.{ne_eqb, lt-ltb, le-ltb, eqb, length, length-take-le}
 use Rattle.agreement.specs.Common.{greatest, most_steps}
 use Rattle.agreement.specs.Translation.Walk.{walk}
 use Rattle.agreement.specs.Translation.Replies.{Block, Reply, First, first, by_first, block_of, walked, translate, numbered, output_after}

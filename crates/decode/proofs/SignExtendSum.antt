@@ -1,9 +1,7 @@
 -- The sum that `sign_extend` makes, once over the width: it is the manual's, and it does not wrap.
-use mathlib.Core.Path.{◌≡◌, refl}
-use Prim.Native.Nat.{ℕ, zero, suc, ◌+◌, ◌-◌, ◌*◌, ◌/◌, ◌%◌, ◌^◌, ◌<◌, ◌≤◌}
-use native.Mathlib.Nat.{one-mul, mod-eq_of_lt}
-use native.Mathlib.Omega.{arith}
-use lib.Pow.{pow-lt, pow_mono, pow_pos, shr_lt}
+use Rattle.std.proofs.Common.{◌≡◌, refl, ℕ, zero, suc, ◌+◌, ◌-◌, ◌*◌, ◌/◌, ◌%◌, ◌^◌, ◌<◌, ◌≤◌, one-mul, mod-eq_of_lt, arith, pow_mono}
+use Rattle.std.proofs.Common.{pow_pos, shr_lt}
+use lib.Pow.{pow-lt}
 use Rattle.agreement.specs.Riscv.Immediates.{sign_extend}
 
 pub one_shl : (n : ℕ) → n ≤ 32 → 1 * 2 ^ n % 2 ^ 64 ≡ 2 ^ n

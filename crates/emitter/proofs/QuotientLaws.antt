@@ -1,10 +1,5 @@
 -- One byte more of a number, and one division more of its quotient: the loop of `emit_u64`.
-use mathlib.Core.Path.{◌≡◌, subst}
-use mathlib.Core.List.{List, [], ◌∷◌}
-use Prim.Native.Nat.{ℕ, ◌+◌, ◌/◌, ◌%◌, ◌<◌, ◌≤◌}
-use native.Mathlib.Numerals.{add-one}
-use native.Mathlib.Omega.{arith}
-use lib.ListN.{length}
+use Rattle.std.proofs.Common.{◌≡◌, subst, List, [], ◌∷◌, ℕ, ◌+◌, ◌/◌, ◌%◌, ◌<◌, ◌≤◌, add-one, arith, length}
 use Rattle.agreement.specs.X86.Memory.{bytes_of}
 use Rattle.agreement.proofs.Laws.Bytes.{len_le, divided_behind, byte_behind}
 use Rattle.emitter.specs.Written.{Wrote, Room}

@@ -1,12 +1,6 @@
 -- REX is left out exactly where its byte would be a bare 0x40.
-use mathlib.Core.Path.{◌≡◌, refl, ap}
-use mathlib.Core.Logic.{◌≢◌}
-use mathlib.Core.Bool.{Bool, true, false}
-use mathlib.Core.List.{[], ◌∷◌}
-use Prim.Native.Nat.{ℕ, ◌+◌, ◌*◌, ◌/◌}
+use Rattle.std.proofs.Common.{◌≡◌, refl, ap, ◌≢◌, Bool, true, false, [], ◌∷◌, ℕ, ◌+◌, ◌*◌, ◌/◌, arith, eq-eqb, ne_eqb}
 use native.Mathlib.Decide.{ℕ_discrete}
-use native.Mathlib.Omega.{arith}
-use borrow.Author.Tests.{eq-eqb, ne_eqb}
 use Rattle.emitter.specs.Shapes.{rex_byte, rex_bytes}
 
 pub bare : (w : Bool) (r x b : ℕ) → rex_byte w r x b ≡ 0x40 → rex_bytes w r x b ≡ []

@@ -1,11 +1,6 @@
 -- Laws of writing in a row, once over the bytes: what every proof of an emitting function cites, here and in the crates above.
-use mathlib.Core.Path.{◌≡◌, refl, sym, ap, ◌∙◌, subst}
-use mathlib.Core.List.{List, [], ◌∷◌, ◌++◌}
-use Prim.Native.Nat.{ℕ, suc, ◌+◌, ◌≤◌}
-use native.Mathlib.Nat.{add-zero, add-suc, suc-add, add_assoc}
-use native.Mathlib.Omega.{arith}
-use borrow.Author.Tests.{eq-eqb, ne_eqb}
-use lib.ListN.{length, set, take, drop, length-append, take-append-drop}
+use Rattle.std.proofs.Common.{◌≡◌, refl, sym, ap, ◌∙◌, subst, List, [], ◌∷◌, ◌++◌, ℕ, suc, ◌+◌, ◌≤◌, add-zero, add-suc, suc-add, add_assoc}
+use Rattle.std.proofs.Common.{arith, eq-eqb, ne_eqb, length, set, take, drop, length-append, take-append-drop}
 use lib.Seq.{sets, sets-eq}
 use Rattle.emitter.specs.Written.{Wrote, Room}
 

@@ -1,8 +1,6 @@
 -- The definitions held against the request's text (document 02, Q-4): cases worked by hand, computed.
-use mathlib.Core.Path.{◌≡◌, refl}
-use mathlib.Core.List.{List, [], ◌∷◌}
+use Rattle.std.proofs.Common.{◌≡◌, refl, List, [], ◌∷◌, ℕ, ◌-◌, ◌^◌}
 use mathlib.Core.Option.{none, some}
-use Prim.Native.Nat.{ℕ, ◌-◌, ◌^◌}
 use Rattle.entry.specs.Index.{find, insert, insert_answer, empty}
 use Rattle.entry.specs.History.{Event.inserted, Event.refused, Event.emptied, last}
 use Rattle.entry.specs.declared.Entry.{Entry}

@@ -1,12 +1,9 @@
 -- The history of an index: what find shows after each operation, that keys stay apart, and the theorem by induction over the list.
-use mathlib.Core.Path.{◌≡◌, refl, sym, ap, ◌∙◌}
-use mathlib.Core.Bool.{Bool, true, false, not, cond, true≢false}
-use mathlib.Core.List.{List, [], ◌∷◌}
+use Rattle.std.proofs.Common.{◌≡◌, refl, sym, ap, ◌∙◌, Bool, true, false, not, cond, true≢false, List, [], ◌∷◌, ℕ, zero, suc, eqb, eqb-true}
+use Rattle.std.proofs.Common.{eq-eqb, ne_eqb}
 use mathlib.Core.Option.{none, some, some-injective, none-ne-some, some-ne-none}
-use Prim.Native.Nat.{ℕ, zero, suc}
-use lib.Dec.{eqb}
 use lib.ListN.{get_elem?}
-use borrow.Author.Tests.{eqb-true, eqb-false, eq-eqb, ne_eqb}
+use borrow.Author.Tests.{eqb-false}
 use Rattle.entry.specs.Index.{free, is_in_use, keyed, holds, any, first_that, before, over_first, find, taken, mark_of, renewed, insert}
 use Rattle.entry.specs.Index.{insert_answer, empty}
 use Rattle.entry.specs.History.{Event, Event.inserted, Event.refused, Event.emptied, last, Operation, Operation.inserts}

@@ -1,10 +1,6 @@
 -- Number 8 is given where the key shows nothing and every entry is in use, and nowhere else.
-use mathlib.Core.Path.{◌≡◌, refl, sym, ap, ◌∙◌}
-use mathlib.Core.Bool.{Bool, true, false, not, cond, true≢false}
-use mathlib.Core.List.{List, [], ◌∷◌}
+use Rattle.std.proofs.Common.{◌≡◌, refl, sym, ap, ◌∙◌, Bool, true, false, not, cond, true≢false, List, [], ◌∷◌, ℕ, eq-eqb}
 use mathlib.Core.Option.{none, some, some-ne-none}
-use Prim.Native.Nat.{ℕ}
-use borrow.Author.Tests.{eq-eqb}
 use Rattle.entry.specs.Index.{free, holds, any, first_that, before, find, taken, insert_answer}
 use Rattle.entry.specs.Laws.{RefusesWhenFull}
 use Rattle.entry.specs.declared.Entry.{Entry}

@@ -1,13 +1,7 @@
 -- Laws of scans and of the entry that insert changes, over any test of an entry.
-use mathlib.Core.Path.{◌≡◌, refl, sym, ap, ◌∙◌, subst}
-use mathlib.Core.Bool.{Bool, true, false, cond, true≢false}
-use mathlib.Core.List.{List, [], ◌∷◌}
+use Rattle.std.proofs.Common.{◌≡◌, refl, sym, ap, ◌∙◌, subst, Bool, true, false, cond, true≢false, List, [], ◌∷◌, ℕ, suc, ◌<◌, ◌≤◌, arith}
+use Rattle.std.proofs.Common.{ltb, length, set, get_or, lt-ltb, le-ltb, ltb-true, ltb-false}
 use mathlib.Core.Option.{Option, none, some}
-use Prim.Native.Nat.{ℕ, suc, ◌<◌, ◌≤◌}
-use native.Mathlib.Omega.{arith}
-use lib.Dec.{ltb}
-use lib.ListN.{length, set, get_or}
-use borrow.Author.Tests.{lt-ltb, le-ltb, ltb-true, ltb-false}
 use Rattle.entry.specs.Index.{any, first_that, before, over_first}
 use Rattle.entry.specs.declared.Entry.{Entry}
 

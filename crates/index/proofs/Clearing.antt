@@ -1,11 +1,6 @@
 -- Marks are being cleared, and entry i is next: those before it are done, and those from it on are still to be.
-use mathlib.Core.Path.{◌≡◌, refl, sym, ap, ◌∙◌}
-use mathlib.Core.List.{List, [], ◌∷◌}
-use Prim.Native.Nat.{ℕ, zero, suc, ◌+◌, ◌<◌, ◌≤◌}
-use native.Mathlib.Nat.{not-suc-le-zero, le_of_suc-le-suc}
-use native.Mathlib.Numerals.{add-one}
-use native.Mathlib.Omega.{arith}
-use lib.ListN.{length, get_or, set, length-set}
+use Rattle.std.proofs.Common.{◌≡◌, refl, sym, ap, ◌∙◌, List, [], ◌∷◌, ℕ, zero, suc, ◌+◌, ◌<◌, ◌≤◌, not-suc-le-zero, le_of_suc-le-suc}
+use Rattle.std.proofs.Common.{add-one, arith, length, get_or, set, length-set}
 use Rattle.entry.specs.Index.{freed, empty}
 use Rattle.entry.specs.declared.Entry.{Entry}
 

@@ -1,8 +1,5 @@
 -- The history of the code: each call's contract gives what the definition leaves.
-use mathlib.Core.Path.{◌≡◌, sym, ◌∙◌, subst}
-use mathlib.Core.Bool.{false}
-use mathlib.Core.List.{List, ◌∷◌}
-use Prim.Native.Nat.{ℕ}
+use Rattle.std.proofs.Common.{◌≡◌, sym, ◌∙◌, subst, false, List, ◌∷◌, ℕ}
 use Rattle.entry.specs.Index.{is_in_use, any, insert_answer}
 use Rattle.entry.specs.Index as Index
 use Rattle.entry.specs.History.{Event, outcome}

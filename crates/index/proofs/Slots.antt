@@ -1,10 +1,5 @@
 -- What the code of insert learns by its two comparisons with the length.
-use mathlib.Core.Path.{◌≡◌, sym, ap, ◌∙◌}
-use mathlib.Core.Bool.{Bool, false, cond}
-use mathlib.Core.List.{List, [], ◌∷◌}
-use Prim.Native.Nat.{ℕ, ◌<◌, ◌≤◌}
-use native.Mathlib.Omega.{arith}
-use lib.ListN.{length, set, get_or}
+use Rattle.std.proofs.Common.{◌≡◌, sym, ap, ◌∙◌, Bool, false, cond, List, [], ◌∷◌, ℕ, ◌<◌, ◌≤◌, arith, length, set, get_or}
 use Rattle.entry.specs.Index.{holds, free, any, before, taken, renewed}
 use Rattle.entry.specs.declared.Entry.{Entry}
 use Rattle.entry.specs.declared.NativeBlock.{NativeBlock}

@@ -1,11 +1,5 @@
 -- Of funct7 only its class matters.
-use mathlib.Core.Path.{◌≡◌, refl}
-use mathlib.Core.Logic.{◌≢◌}
-use mathlib.Core.Bool.{Bool, true, false, cond}
-use Prim.Native.Nat.{ℕ, zero, suc, ◌+◌, ◌*◌, ◌/◌, ◌%◌, ◌<◌}
-use native.Mathlib.Omega.{arith}
-use borrow.Author.Tests.{ne_eqb}
-use lib.Dec.{eqb}
+use Rattle.std.proofs.Common.{◌≡◌, refl, ◌≢◌, Bool, true, false, cond, ℕ, zero, suc, ◌+◌, ◌*◌, ◌/◌, ◌%◌, ◌<◌, arith, ne_eqb, eqb}
 use Rattle.agreement.specs.Translation.Kind.{match, kind_of, kind_op, kind_op32, kind_op_imm, kind_op_imm32}
 use Rattle.agreement.proofs.Laws.Matches.{decide}
 use Rattle.kind.specs.Family.{class_of}

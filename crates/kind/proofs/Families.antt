@@ -1,12 +1,7 @@
 -- The number of an opcode, tested at each class and funct3.
-use mathlib.Core.Path.{◌≡◌, refl, sym, ap, ◌∙◌}
-use mathlib.Core.Logic.{◌≢◌}
-use mathlib.Core.Bool.{Bool, true, false, cond}
-use Prim.Native.Nat.{ℕ, ◌+◌, ◌*◌, ◌/◌, ◌%◌, ◌^◌, ◌<◌}
+use Rattle.std.proofs.Common.{◌≡◌, refl, sym, ap, ◌∙◌, ◌≢◌, Bool, true, false, cond, ℕ, ◌+◌, ◌*◌, ◌/◌, ◌%◌, ◌^◌, ◌<◌, arith, ne_eqb, T, eqb}
+use Rattle.std.proofs.Common.{eqb→eq}
 use native.Mathlib.Nat.{zero-div}
-use native.Mathlib.Omega.{arith}
-use borrow.Author.Tests.{ne_eqb}
-use lib.Dec.{T, eqb, eqb→eq}
 use Rattle.agreement.specs.Riscv.Instruction.{Instruction}
 use Rattle.agreement.specs.Riscv.Instruction.Instruction.{op, op_imm, branch, access, unmodelled, LUI, AUIPC, JAL, JALR, FENCE, FENCE_I}
 use Rattle.agreement.specs.Riscv.Instruction.Instruction.{other}

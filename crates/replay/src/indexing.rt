@@ -187,7 +187,7 @@ fn set<W: Write>(kept: Kept, slot: usize, e: Entry, to: &mut Output<W>) -> Answe
 // Writes the reply to what is asked for.
 fn answer<W: Write>(asked: Indexing, kept: Kept, to: &mut Output<W>) -> Answered
     requires fits { Fits asked }
-    requires n_bound { kept.n ≤ 64 }
+    requires few_entries { kept.n ≤ 64 }
     ensures { Answers asked kept result }
 {
     match asked {

@@ -126,8 +126,8 @@ fn ended<W: Write>(line: &[u8], state: State, to: &mut Output<W>) -> State
 
 // One byte more.
 fn step<W: Write>(line: &mut [u8], state: State, b: u8, to: &mut Output<W>) -> State
-    requires value { 8192 ≡ length line.old }
-    requires n_bound { state.kept.n ≤ 64 }
+    requires line_length { 8192 ≡ length line.old }
+    requires few_entries { state.kept.n ≤ 64 }
     ensures { result.kept.n ≤ 64 }
 {
     if state.used == UNWRITABLE {
@@ -142,8 +142,8 @@ fn step<W: Write>(line: &mut [u8], state: State, b: u8, to: &mut Output<W>) -> S
 }
 
 fn feed<W: Write>(text: &[u8], line: &mut [u8], state: State, to: &mut Output<W>) -> State
-    requires value { 8192 ≡ length line.old }
-    requires n_bound { state.kept.n ≤ 64 }
+    requires line_length { 8192 ≡ length line.old }
+    requires few_entries { state.kept.n ≤ 64 }
     ensures { result.kept.n ≤ 64 }
 {
     let mut s = state;

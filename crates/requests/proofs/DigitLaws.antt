@@ -1,13 +1,6 @@
 -- Laws of digits, for the loop that reads a number.
-use mathlib.Core.Path.{◌≡◌, refl, sym, ap, ◌∙◌}
-use mathlib.Core.List.{List, ◌∷◌}
-use Prim.Native.Nat.{ℕ, ◌+◌, ◌*◌, ◌-◌, ◌/◌, ◌^◌, ◌<◌, ◌≤◌}
-use native.Mathlib.Nat.{div-lt_iff_lt-mul}
-use native.Mathlib.Numerals.{add-one}
-use native.Mathlib.Omega.{arith}
-use borrow.Author.Tests.{lt-ltb, le-ltb}
-use lib.ListN.{length, drop, get_or, drop_of_length-le}
-use lib.Seq.{drop-cons}
+use Rattle.std.proofs.Common.{◌≡◌, refl, sym, ap, ◌∙◌, List, ◌∷◌, ℕ, ◌+◌, ◌*◌, ◌-◌, ◌/◌, ◌^◌, ◌<◌, ◌≤◌, div-lt_iff_lt-mul, add-one, arith}
+use Rattle.std.proofs.Common.{lt-ltb, le-ltb, length, drop, get_or, drop_of_length-le, drop-cons}
 use Rattle.requests.specs.Fields.{digit_of, digits, ends, too_long, number_at}
 
 -- the digits from `from` on up to `at` are read, and their value is `value`

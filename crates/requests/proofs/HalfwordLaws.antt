@@ -1,13 +1,7 @@
 -- Laws of a list of halfwords, for the loop that reads one.
-use mathlib.Core.Path.{◌≡◌, sym, ap, ◌∙◌}
-use mathlib.Core.Bool.{true}
-use mathlib.Core.List.{List, [], ◌∷◌, ◌++◌}
-use Prim.Native.Nat.{ℕ, suc, ◌+◌, ◌-◌, ◌%◌, ◌<◌, ◌≤◌}
-use native.Mathlib.Numerals.{add-one}
-use native.Mathlib.Omega.{arith}
-use borrow.Author.Tests.{eq-eqb, ne_eqb, le-leb, lt-leb}
-use lib.ListN.{length, take, get_or, set, length-set}
-use lib.Seq.{length-take-le, take-suc-set}
+use Rattle.std.proofs.Common.{◌≡◌, sym, ap, ◌∙◌, true, List, [], ◌∷◌, ◌++◌, ℕ, suc, ◌+◌, ◌-◌, ◌%◌, ◌<◌, ◌≤◌, add-one, arith, eq-eqb, ne_eqb}
+use Rattle.std.proofs.Common.{le-leb, length, take, get_or, set, length-set, length-take-le, take-suc-set}
+use borrow.Author.Tests.{lt-leb}
 use Rattle.requests.specs.declared.fields.Field.{Field}
 use Rattle.requests.specs.declared.halfwords.Run.{Run}
 use Rattle.requests.specs.Fields.{number_at}

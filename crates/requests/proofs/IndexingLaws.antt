@@ -1,14 +1,6 @@
 -- Laws of the fields that lines about the index have: a word at the line's front, and a number with a greatest.
-use mathlib.Core.Path.{◌≡◌, refl}
-use mathlib.Core.Bool.{Bool, true, false, cond}
-use mathlib.Core.List.{List}
-use Prim.Native.Nat.{ℕ, ◌+◌, ◌<◌, ◌≤◌}
-use native.Mathlib.Numerals.{add-one}
-use native.Mathlib.Omega.{arith}
-use borrow.Author.Tests.{eq-eqb, ne_eqb, leb-true}
-use lib.Dec.{leb}
-use lib.ListN.{length, drop, get_or, drop_of_length-le}
-use lib.Seq.{drop-cons}
+use Rattle.std.proofs.Common.{◌≡◌, refl, Bool, true, false, cond, List, ℕ, ◌+◌, ◌<◌, ◌≤◌, add-one, arith, eq-eqb, ne_eqb, leb-true, leb}
+use Rattle.std.proofs.Common.{length, drop, get_or, drop_of_length-le, drop-cons}
 use Rattle.requests.specs.declared.fields.Field.{Field}
 use Rattle.requests.specs.Fields.{too_long, next_number}
 use Rattle.requests.specs.Indexing.{begins_with, next_at_most}

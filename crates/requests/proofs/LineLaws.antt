@@ -1,10 +1,6 @@
 -- What a request asks to be lent is not too much: for the caller that lends it.
-use mathlib.Core.Path.{◌≡◌, refl}
-use mathlib.Core.Bool.{Bool, true, false, ◌&&◌, and-eq-true_iff}
-use mathlib.Core.List.{List}
-use Prim.Native.Nat.{ℕ, ◌≤◌, ◌^◌}
-use borrow.Author.Tests.{leb-true}
-use lib.Dec.{ltb, leb}
+use Rattle.std.proofs.Common.{◌≡◌, refl, Bool, true, false, ◌&&◌, List, ℕ, ◌≤◌, ◌^◌, leb-true, ltb, leb}
+use mathlib.Core.Bool.{and-eq-true_iff}
 use Rattle.requests.specs.declared.fields.Field.{Field}
 use Rattle.requests.specs.declared.halfwords.Run.{Run}
 use Rattle.requests.specs.declared.indexing.Indexing.{Indexing}

@@ -1,14 +1,8 @@
 -- Laws of the pattern, for the loops that fill lent bytes and test them.
-use mathlib.Core.Path.{◌≡◌, refl, sym, ap, ◌∙◌}
-use mathlib.Core.Bool.{true, false}
-use mathlib.Core.List.{List, ◌∷◌}
-use Prim.Native.Nat.{ℕ, zero, suc, ◌+◌, ◌-◌, ◌<◌, ◌≤◌}
-use native.Mathlib.Nat.{add-zero, le_of_suc-le-suc, not-suc-le-zero}
-use native.Mathlib.Numerals.{add-one}
-use native.Mathlib.Omega.{arith}
-use borrow.Author.Tests.{eq-eqb, ne_eqb}
-use lib.ListN.{length, take, drop, get_or, drop_of_length-le}
-use lib.Seq.{take-nil, drop-cons, ext_get_or}
+use Rattle.std.proofs.Common.{◌≡◌, refl, sym, ap, ◌∙◌, true, false, List, ◌∷◌, ℕ, zero, suc, ◌+◌, ◌-◌, ◌<◌, ◌≤◌, add-zero, le_of_suc-le-suc}
+use Rattle.std.proofs.Common.{not-suc-le-zero, add-one, arith, eq-eqb, ne_eqb, length, take, drop, get_or, drop_of_length-le, drop-cons}
+use Rattle.std.proofs.Common.{ext_get_or}
+use lib.Seq.{take-nil}
 use Rattle.requests.specs.Pattern.{pattern_byte, pattern_from, patterned, is_pattern_from, is_untouched}
 
 length_pattern : (i n : ℕ) → length (pattern_from i n) ≡ n

@@ -1,12 +1,6 @@
 -- Placing (crate agreement, Translation/Place): one law for each way through its tests, the answers that give it, and the mark they leave.
-use mathlib.Core.Path.{◌≡◌, refl, sym, ap, ◌∙◌}
-use mathlib.Core.Bool.{Bool, true, false}
-use mathlib.Core.List.{List, [], ◌∷◌, ◌++◌}
-use Prim.Native.Nat.{ℕ, ◌+◌, ◌-◌, ◌%◌, ◌<◌, ◌≤◌}
-use native.Mathlib.Omega.{arith}
-use borrow.Author.Tests.{lt-ltb, le-ltb}
-use lib.Dec.{ltb}
-use lib.ListN.{length, take, drop}
+use Rattle.std.proofs.Common.{◌≡◌, refl, sym, ap, ◌∙◌, Bool, true, false, List, [], ◌∷◌, ◌++◌, ℕ, ◌+◌, ◌-◌, ◌%◌, ◌<◌, ◌≤◌, arith, lt-ltb}
+use Rattle.std.proofs.Common.{le-ltb, ltb, length, take, drop}
 use Rattle.agreement.specs.Translation.Place as Definition
 use Rattle.agreement.specs.Translation.Place.{round_up, place, placing_numbered, store_after, mark_after}
 use Rattle.agreement.specs.Translation.Place.Placing.{placed, beyond, full}

@@ -14,7 +14,7 @@ pub enum Placing {
 
 // The record of the store: how much of it is used. The store's bytes are lent beside it.
 #[repr(C)]
-#[derive(Drop)]
+#[derive(Clone, Copy)]
 pub struct NativeCodeCache {
     pub used: usize,
 }
@@ -96,7 +96,7 @@ pub fn alloc(cache: &mut NativeCodeCache, code: &[u8], store: &mut [u8]) -> Plac
 }
 
 // For a caller that keeps the mark as a number.
-#[derive(Drop)]
+#[derive(Clone, Copy)]
 pub struct Allocated {
     pub placing: Placing,
     pub used: usize,

@@ -6,13 +6,13 @@ ghost use Rattle.std.specs.Prelude.{◌≤◌, take};
 ghost use Rattle.index.specs.Answers.{Finds, Inserts, Empties};
 ghost use Rattle.table.specs.Held.{AtFront};
 
-#[derive(Drop)]
+#[derive(Clone, Copy)]
 pub struct Inserted {
     pub entries: [entry::Entry; 64],
     pub inserting: index::Inserting,
 }
 
-#[derive(Drop)]
+#[derive(Clone, Copy)]
 pub struct Emptied {
     pub entries: [entry::Entry; 64],
     pub used: usize,

@@ -1,9 +1,5 @@
 -- The bytes at the front of the output, as many as an answer says, are the reply's.
-use mathlib.Core.Path.{◌≡◌, refl, ap, ◌∙◌}
-use mathlib.Core.List.{List}
-use Prim.Native.Nat.{ℕ}
-use native.Mathlib.Omega.{arith}
-use lib.ListN.{take}
+use Rattle.std.proofs.Common.{◌≡◌, refl, ap, ◌∙◌, List, ℕ, arith, take}
 use Rattle.agreement.specs.Translation.Replies.{Reply}
 use Rattle.translate.specs.Prefix.{IsPrefixLen}
 use Rattle.block.specs.Answers.{Answers, Fits}

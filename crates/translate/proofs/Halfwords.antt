@@ -1,10 +1,6 @@
 -- The halfwords of a run of bytes, one at a time.
-use mathlib.Core.Path.{◌≡◌, refl, sym, ap, ◌∙◌}
-use mathlib.Core.List.{List, [], ◌∷◌}
-use Prim.Native.Nat.{ℕ, zero, suc, ◌+◌, ◌*◌, ◌/◌, ◌<◌, ◌≤◌}
-use native.Mathlib.Omega.{arith}
-use lib.ListN.{length, get_or, set, take}
-use lib.Seq.{take-suc, take-suc-set, take_all}
+use Rattle.std.proofs.Common.{◌≡◌, refl, sym, ap, ◌∙◌, List, [], ◌∷◌, ℕ, zero, suc, ◌+◌, ◌*◌, ◌/◌, ◌<◌, ◌≤◌, arith, length, get_or, set}
+use Rattle.std.proofs.Common.{take, take-suc, take-suc-set, take_all}
 use Rattle.translate.specs.Program.{halfwords_of}
 
 pub how_many : (l : List ℕ) → length (halfwords_of l) ≡ length l / 2

@@ -1,6 +1,7 @@
 -- The halfwords from an index on, and what stands at their front.
-use Rattle.std.proofs.Common.{◌≡◌, ℕ, suc, ◌+◌, ◌*◌, ◌%◌, ◌<◌, ◌≤◌, true, false, eqb, ◌≢◌, List, [], ◌∷◌, length, get_or, drop, refl, ap, ◌∙◌, arith, drop_of_length-le, drop-cons, ne_eqb}
-use lib.Bits.{bit_and, and_mask}
+use Rattle.std.proofs.Common.{bit_and, List, [], ap, arith, drop, drop-cons, drop_of_length-le, eqb, false, get_or, length, ne_eqb, refl}
+use Rattle.std.proofs.Common.{suc, true, ℕ, ◌%◌, ◌*◌, ◌+◌, ◌<◌, ◌∙◌, ◌∷◌, ◌≡◌, ◌≢◌, ◌≤◌}
+use lib.Bits.{and_mask}
 use Rattle.agreement.proofs.Laws.Fields.{word_of_is}
 use Rattle.walk.specs.Fetch.{fetched}
 use Rattle.walk.specs.declared.fetch.Fetched.{Fetched}

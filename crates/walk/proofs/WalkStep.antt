@@ -1,6 +1,6 @@
 -- A step of the walk (crate agreement, Translation/Walk) by what stands at the front of the run.
-use Rattle.std.proofs.Common.{◌≡◌, ℕ, zero, suc, ◌+◌, ◌-◌, Bool, true, false, cond, eqb, ◌≢◌, List, [], ◌∷◌, drop, sym, refl, ap, ◌∙◌, sub-one, drop-drop}
-use lib.Bits.{bit_and}
+use Rattle.std.proofs.Common.{bit_and, Bool, List, [], ap, cond, drop, drop-drop, eqb, false, refl, sub-one, suc, sym, true, zero, ℕ, ◌+◌}
+use Rattle.std.proofs.Common.{◌-◌, ◌∙◌, ◌∷◌, ◌≡◌, ◌≢◌}
 use Rattle.agreement.specs.Common.{Helper.for_halfword}
 use Rattle.agreement.specs.Translation.Decode32.{word_of, wrapping_add}
 use Rattle.agreement.specs.Translation.Kind.{kind}

@@ -1,13 +1,7 @@
 -- A block from its entry to its return, or to the call of its helper and on from there.
-use mathlib.Core.Bool.{Bool, cond, false, true}
-use mathlib.Core.List.{List, [], ◌++◌, ◌∷◌, append_assoc}
+use Rattle.std.proofs.Common.{Bool, cond, false, true, List, [], ◌++◌, ◌∷◌, append_assoc, ◌∙◌, ◌≡◌, ap, refl, subst, sym, ◌%◌, ◌*◌, ◌+◌}
+use Rattle.std.proofs.Common.{◌/◌, ◌<◌, ◌^◌, suc, ℕ, mod-eq_of_lt, arith, eqb, eqb→eq, leb, length, length-append}
 use mathlib.Core.Option.{some}
-use mathlib.Core.Path.{◌∙◌, ◌≡◌, ap, refl, subst, sym}
-use Prim.Native.Nat.{◌%◌, ◌*◌, ◌+◌, ◌/◌, ◌<◌, ◌^◌, suc, ℕ}
-use native.Mathlib.Nat.{mod-eq_of_lt}
-use native.Mathlib.Omega.{arith}
-use lib.Dec.{eqb, eqb→eq, leb}
-use lib.ListN.{length, length-append}
 use Rattle.agreement.specs.Common.{Helper, Helper.for_access, Helper.for_halfword}
 use Rattle.agreement.specs.Riscv.Run.{Read, Registers, Stop.called, Stop.plain}
 use Rattle.agreement.specs.Translation.Emit.{add_count, closing, opening, passes}

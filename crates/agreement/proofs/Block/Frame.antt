@@ -1,13 +1,7 @@
 -- The opening and the closing: what they leave in registers and on the stack, what they write, and that they may.
 -- p is 64 below the entry stack pointer: the saved registers stand at p + 56 down to p + 16, the return address at p + 64.
-use mathlib.Core.Bool.{Bool, true}
-use mathlib.Core.List.{List, [], ◌++◌, ◌∷◌}
-use mathlib.Core.Logic.{◌≢◌}
-use mathlib.Core.Path.{◌∙◌, ◌≡◌, refl}
-use Prim.Native.Nat.{◌%◌, ◌+◌, ◌-◌, ◌<◌, ◌^◌, ◌≤◌, ℕ}
-use native.Mathlib.Nat.{mod-eq_of_lt}
-use native.Mathlib.Omega.{arith}
-use lib.Dec.{leb}
+use Rattle.std.proofs.Common.{Bool, true, List, [], ◌++◌, ◌∷◌, ◌≢◌, ◌∙◌, ◌≡◌, refl, ◌%◌, ◌+◌, ◌-◌, ◌<◌, ◌^◌, ◌≤◌, ℕ, mod-eq_of_lt, arith}
+use Rattle.std.proofs.Common.{leb}
 use Rattle.agreement.specs.Translation.Emit.{closing, opening}
 use Rattle.agreement.specs.X86.Execute.{accesses, exec}
 use Rattle.agreement.specs.X86.Flags.{alu_value, sext}

@@ -1,12 +1,8 @@
 -- The stages of a block: entry, in the middle of it, at a helper's first instruction, and how each leads to the next.
 -- b: the registers' address; c: the block's; p: 64 below the entry stack pointer; P: the addresses that may be written.
-use mathlib.Core.Bool.{Bool, false, true}
-use mathlib.Core.List.{List, [], ◌++◌, append_assoc}
+use Rattle.std.proofs.Common.{Bool, false, true, List, [], ◌++◌, append_assoc, ◌∙◌, ◌≡◌, ap, refl, sym, ◌%◌, ◌*◌, ◌+◌, ◌-◌, ◌<◌, ◌^◌, ◌≤◌}
+use Rattle.std.proofs.Common.{ℕ, arith, length, length-append}
 use mathlib.Core.Option.{some}
-use mathlib.Core.Path.{◌∙◌, ◌≡◌, ap, refl, sym}
-use Prim.Native.Nat.{◌%◌, ◌*◌, ◌+◌, ◌-◌, ◌<◌, ◌^◌, ◌≤◌, ℕ}
-use native.Mathlib.Omega.{arith}
-use lib.ListN.{length, length-append}
 use Rattle.agreement.specs.Riscv.Run.{Registers}
 use Rattle.agreement.specs.Translation.Emit.{closing, opening}
 use Rattle.agreement.specs.Statement.Premises.{Apart}

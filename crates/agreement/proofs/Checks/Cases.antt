@@ -1,10 +1,7 @@
 -- The cases that document 01 marks P, as document 02 changes them, those and no others: one list, and one Boolean test over it.
 -- The case stands above each. The bytes are those that the original Rust wrote, but for DIVW, which the Rust does not take: an
 -- assembler's. `_` parts host instructions.
-use mathlib.Core.Bool.{Bool, true, false, ◌&&◌}
-use mathlib.Core.List.{List, [], ◌∷◌, ◌++◌}
-use Prim.Native.Nat.{ℕ, zero, suc, ◌-◌, ◌/◌, ◌%◌, ◌^◌}
-use lib.Dec.{eqb}
+use Rattle.std.proofs.Common.{Bool, true, false, ◌&&◌, List, [], ◌∷◌, ◌++◌, ℕ, zero, suc, ◌-◌, ◌/◌, ◌%◌, ◌^◌, eqb}
 use Rattle.agreement.specs.Riscv.Immediates as Manual
 use Rattle.agreement.specs.Translation.Decode32 as Decode32
 use Rattle.agreement.specs.Translation.Replies.{Reply, Reply.block, Reply.refusal, numbered, translate}

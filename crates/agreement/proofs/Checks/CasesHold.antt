@@ -1,6 +1,5 @@
 -- The P cases of document 01 hold of the definitions, by computing their one test.
-use mathlib.Core.Path.{◌≡◌, refl}
-use mathlib.Core.Bool.{true}
+use Rattle.std.proofs.Common.{◌≡◌, refl, true}
 use Rattle.agreement.specs.Riscv.Immediates as Manual
 use Rattle.agreement.specs.Translation.Decode32 as Decode32
 use Rattle.agreement.specs.Translation.Kind.{match, kind_op, kind_op32, kind_op_imm, kind_op_imm32, kind_branch, kind_load, kind_store}

@@ -1,9 +1,5 @@
 -- The guest's code changes between turns: it stores new code, issues FENCE.I and enters what it stored. The theorem is applied.
-use mathlib.Core.Bool.{false}
-use mathlib.Core.List.{List, [], ◌∷◌}
-use mathlib.Core.Path.{◌∙◌, ◌≡◌, refl}
-use Prim.Native.Nat.{◌*◌, ◌+◌}
-use native.Mathlib.Omega.{arith}
+use Rattle.std.proofs.Common.{false, List, [], ◌∷◌, ◌∙◌, ◌≡◌, refl, ◌*◌, ◌+◌, arith}
 use Rattle.agreement.specs.Common.{Helper.for_access}
 use Rattle.agreement.specs.Riscv.Code.{Code, run_at}
 use Rattle.agreement.specs.Riscv.Instruction.{value_op_imm}

@@ -1,10 +1,5 @@
 -- Words that divide: a turn whose block jumps over its division, to which the theorem is applied, and which words divide at all.
-use mathlib.Core.Bool.{Bool, ◌&&◌, false, not, true}
-use mathlib.Core.List.{List, [], ◌∷◌}
-use mathlib.Core.Path.{◌∙◌, ◌≡◌, refl}
-use Prim.Native.Nat.{◌*◌, ◌-◌, ◌^◌, ◌≤◌, ℕ}
-use native.Mathlib.Omega.{arith}
-use lib.ListN.{length}
+use Rattle.std.proofs.Common.{Bool, ◌&&◌, false, not, true, List, [], ◌∷◌, ◌∙◌, ◌≡◌, refl, ◌*◌, ◌-◌, ◌^◌, ◌≤◌, ℕ, arith, length}
 use Rattle.agreement.specs.Riscv.Code.{run_at}
 use Rattle.agreement.specs.Riscv.Instruction.{quotient, value_op}
 use Rattle.agreement.specs.Riscv.Run.{GuestState, write_x}

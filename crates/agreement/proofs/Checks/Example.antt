@@ -1,12 +1,8 @@
 -- A list of turns that meets every premise: the theorem is applied to it, so that its premises are seen to be met.
 -- Registers at 0x10000, block at 0x20000; three entry stack pointers, two of which differ modulo 32, and one as high as can
 -- be. The block may only be fetched from, the registers and the stack only read and written, and nothing else may be touched.
-use mathlib.Core.Bool.{Bool, false, ◌&&◌, ◌||◌}
-use mathlib.Core.List.{List, [], ◌∷◌}
+use Rattle.std.proofs.Common.{Bool, false, ◌&&◌, ◌||◌, List, [], ◌∷◌, ℕ, ◌+◌, ◌-◌, ◌*◌, ◌%◌, length, replicate, leb, ltb}
 use mathlib.Core.Option.{none}
-use Prim.Native.Nat.{ℕ, ◌+◌, ◌-◌, ◌*◌, ◌%◌}
-use lib.ListN.{length, replicate}
-use lib.Dec.{leb, ltb}
 use Rattle.agreement.specs.Riscv.Code.{Code}
 use Rattle.agreement.specs.X86.Memory.{at, read, write}
 use Rattle.agreement.specs.X86.Form.{RAX, RDX, RSP}

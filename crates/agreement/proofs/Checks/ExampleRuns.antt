@@ -1,11 +1,7 @@
 -- The model computes: the example's plain block, one that jumps over its division and one that divides, fetched, decoded and
 -- executed step by step from entry to return.
-use mathlib.Core.Bool.{false, true}
-use mathlib.Core.List.{List, [], ◌∷◌}
+use Rattle.std.proofs.Common.{false, true, List, [], ◌∷◌, ◌≡◌, refl, ◌-◌, ◌^◌, ℕ, length}
 use mathlib.Core.Option.{Option, none, some}
-use mathlib.Core.Path.{◌≡◌, refl}
-use Prim.Native.Nat.{◌-◌, ◌^◌, ℕ}
-use lib.ListN.{length}
 use Rattle.agreement.specs.Translation.Replies.{walked}
 use Rattle.agreement.specs.Translation.Walk.{instrs}
 use Rattle.agreement.specs.Statement.Machine.{enter}

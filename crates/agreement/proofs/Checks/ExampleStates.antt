@@ -1,9 +1,5 @@
 -- The manual's state along the example, turn by turn, by computing.
-use mathlib.Core.Bool.{cond, false, not, true}
-use mathlib.Core.Path.{◌∙◌, ◌≡◌, ap, refl}
-use Prim.Native.Nat.{◌%◌, ◌+◌, ◌^◌}
-use native.Mathlib.Omega.{arith}
-use lib.Dec.{eqb}
+use Rattle.std.proofs.Common.{cond, false, not, true, ◌∙◌, ◌≡◌, ap, refl, ◌%◌, ◌+◌, ◌^◌, arith, eqb}
 use Rattle.agreement.specs.Common.{Helper.for_access, Helper.for_halfword}
 use Rattle.agreement.specs.Riscv.Instruction.{branches, find, find_in, three_is, top_is, value_op_imm}
 use Rattle.agreement.specs.Riscv.Code.{run_at}

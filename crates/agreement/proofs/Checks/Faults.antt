@@ -1,12 +1,8 @@
 -- What has no next state: a fetch, a read or a write that is not permitted, a division by 0 or whose quotient does not fit, a jump
 -- backward. For each instruction that touches memory the least that has to be permitted is enough, and one address less is not; the
 -- instruction stands at address 0, every register is 0x1000.
-use mathlib.Core.Bool.{Bool, ◌&&◌, cond, false, not, true}
-use mathlib.Core.List.{List, [], ◌∷◌}
+use Rattle.std.proofs.Common.{Bool, ◌&&◌, cond, false, not, true, List, [], ◌∷◌, ◌≡◌, refl, ℕ, ◌+◌, ◌-◌, ◌^◌, eqb, leb, ltb}
 use mathlib.Core.Option.{Option, none, some}
-use mathlib.Core.Path.{◌≡◌, refl}
-use Prim.Native.Nat.{ℕ, ◌+◌, ◌-◌, ◌^◌}
-use lib.Dec.{eqb, leb, ltb}
 use Rattle.agreement.specs.X86.Decode.{Answer, cc_of, decode, imm, loaded, memory, modrm, moved, mul_div_of, on_reg, only, opcode1, pick}
 use Rattle.agreement.specs.X86.Decode.{width_of}
 use Rattle.agreement.specs.X86.Execute.{accesses, division_faults, faults}

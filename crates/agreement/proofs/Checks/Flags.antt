@@ -1,10 +1,6 @@
 -- Flags, also those that no block looks at: the SDM's values as computed vectors, and the laws of a shift by 0.
 -- The values are what a processor gave for the same instruction and operands, but for the flags that the SDM leaves undefined.
-use mathlib.Core.Bool.{Bool, ◌&&◌, cond, false, true}
-use mathlib.Core.List.{List, [], ◌∷◌}
-use mathlib.Core.Path.{◌≡◌, refl}
-use Prim.Native.Nat.{◌*◌, ◌+◌, ◌-◌, ◌^◌, ℕ}
-use lib.Dec.{eqb}
+use Rattle.std.proofs.Common.{Bool, ◌&&◌, cond, false, true, List, [], ◌∷◌, ◌≡◌, refl, ◌*◌, ◌+◌, ◌-◌, ◌^◌, ℕ, eqb}
 use Rattle.agreement.specs.X86.Execute.{mul_div_to}
 use Rattle.agreement.specs.X86.Flags.{add_flags, alu_flags, as_bits, as_signed, bit_of, even_ones, imul_flags, logic_flags, ones, sext}
 use Rattle.agreement.specs.X86.Flags.{shift_flags, shift_overflow, shifted, shifted_out, smul_flags, sub_flags, umul_flags}

@@ -1,10 +1,6 @@
 -- The flags after an instruction: those that it sets, at both widths, what it leaves undefined taken from `undefined` and from
 -- nowhere else; and the instructions that leave every flag. The values are a processor's, as in Checks/Flags.
-use mathlib.Core.Bool.{Bool, ◌&&◌, true}
-use mathlib.Core.List.{List, [], ◌∷◌}
-use mathlib.Core.Path.{◌≡◌, refl}
-use Prim.Native.Nat.{ℕ}
-use lib.Dec.{eqb}
+use Rattle.std.proofs.Common.{Bool, ◌&&◌, true, List, [], ◌∷◌, ◌≡◌, refl, ℕ, eqb}
 use Rattle.agreement.specs.X86.Execute.{exec}
 use Rattle.agreement.specs.X86.Flags.{add_flags, alu_flags, as_bits, as_signed, even_ones, holds, imul_flags, logic_flags, ones, sext}
 use Rattle.agreement.specs.X86.Flags.{shift_flags, shift_overflow, shifted, shifted_out, smul_flags, sub_flags, umul_flags}

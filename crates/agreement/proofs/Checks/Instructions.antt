@@ -1,11 +1,7 @@
 -- The host's meanings by themselves, as computed vectors, with what no block looks at: upper halves, AL alone, the sign
 -- extension of immediates and displacements, the masks of shift counts. The values of products, divisions and jumps are what a
 -- processor gave for the same instruction and operands.
-use mathlib.Core.Bool.{Bool, ◌&&◌, cond, false, true}
-use mathlib.Core.List.{List, [], ◌∷◌}
-use mathlib.Core.Path.{◌≡◌, refl}
-use Prim.Native.Nat.{ℕ, zero, suc, ◌+◌, ◌/◌, ◌%◌, ◌^◌}
-use lib.Dec.{eqb}
+use Rattle.std.proofs.Common.{Bool, ◌&&◌, cond, false, true, List, [], ◌∷◌, ◌≡◌, refl, ℕ, zero, suc, ◌+◌, ◌/◌, ◌%◌, ◌^◌, eqb}
 use Rattle.agreement.proofs.Checks.Cases.{equal}
 use Rattle.agreement.proofs.Checks.Flags.{number, off}
 use Rattle.agreement.specs.X86.Encode.{encode}

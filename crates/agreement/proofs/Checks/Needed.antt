@@ -1,10 +1,6 @@
 -- What a translation needs, worked out by hand from the fetches of the Rust's loop. That it needs no more is a theorem (Laws/Needed); of
 -- the whole run that would hold too.
-use mathlib.Core.Path.{◌≡◌, refl}
-use mathlib.Core.Bool.{Bool, true, ◌&&◌}
-use mathlib.Core.List.{List, [], ◌∷◌}
-use Prim.Native.Nat.{ℕ}
-use lib.ListN.{take}
+use Rattle.std.proofs.Common.{◌≡◌, refl, Bool, true, ◌&&◌, List, [], ◌∷◌, ℕ, take}
 use Rattle.agreement.specs.Translation.Needed.{needed}
 use Rattle.agreement.proofs.Checks.Cases.{equal}
 use Rattle.agreement.proofs.Checks.CasesHold.{translations, tests}

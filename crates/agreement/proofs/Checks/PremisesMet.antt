@@ -1,11 +1,5 @@
 -- The premises are met by two concrete lists of turns, and the theorem is applied to them.
-use mathlib.Core.Bool.{◌||◌, true}
-use mathlib.Core.List.{List, [], ◌∷◌}
-use mathlib.Core.Logic.{◌≢◌}
-use mathlib.Core.Path.{◌∙◌, ◌≡◌, ap, refl}
-use Prim.Native.Nat.{◌%◌, ◌*◌, ◌+◌, ◌-◌, ◌<◌, ◌^◌, ◌≤◌, ℕ}
-use native.Mathlib.Omega.{arith}
-use lib.ListN.{length}
+use Rattle.std.proofs.Common.{◌||◌, true, List, [], ◌∷◌, ◌≢◌, ◌∙◌, ◌≡◌, ap, refl, ◌%◌, ◌*◌, ◌+◌, ◌-◌, ◌<◌, ◌^◌, ◌≤◌, ℕ, arith, length}
 use Rattle.agreement.specs.Common.{Helper.for_access, Helper.for_halfword}
 use Rattle.agreement.specs.Laws.{Lengths}
 use Rattle.agreement.specs.Riscv.Code.{Code, run_at}

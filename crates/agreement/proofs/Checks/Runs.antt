@@ -1,9 +1,6 @@
 -- Runs of a code, by computing: around the end of the address space, up to what was fetched, up to what is missing.
-use mathlib.Core.Bool.{cond}
-use mathlib.Core.List.{[], ◌∷◌}
+use Rattle.std.proofs.Common.{cond, [], ◌∷◌, ◌≡◌, refl, eqb}
 use mathlib.Core.Option.{none, some}
-use mathlib.Core.Path.{◌≡◌, refl}
-use lib.Dec.{eqb}
 use Rattle.agreement.specs.Riscv.Code.{Code, run_at}
 
 -- halfwords at 2^64 - 4, 2^64 - 2, 0, 2, 3 and 6, where the number has more than 16 bits, and none elsewhere

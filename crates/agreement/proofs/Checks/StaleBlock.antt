@@ -1,8 +1,5 @@
 -- A block made from older code, where new code stands: the premise on code is not met, and without it the theorem would be false.
-use mathlib.Core.List.{List, [], ◌∷◌}
-use mathlib.Core.Path.{◌∙◌, ◌≡◌, ap, refl, sym}
-use Prim.Native.Nat.{◌*◌, ℕ}
-use native.Mathlib.Omega.{arith}
+use Rattle.std.proofs.Common.{List, [], ◌∷◌, ◌∙◌, ◌≡◌, ap, refl, sym, ◌*◌, ℕ, arith}
 use Rattle.agreement.specs.Riscv.Code.{Code, run_at}
 use Rattle.agreement.specs.Riscv.Instruction.{value_op_imm}
 use Rattle.agreement.specs.Riscv.Immediates as Manual

@@ -1,12 +1,7 @@
 -- The values of M at their corners (divisors 0, the signed overflow, signs, 32-bit words, upper halves): by the manual's side, and by the
 -- host instructions of each word, which the model fetches, decodes and executes.
-use mathlib.Core.Bool.{Bool, ◌&&◌, cond, false, true}
-use mathlib.Core.List.{List, [], ◌∷◌}
+use Rattle.std.proofs.Common.{Bool, ◌&&◌, cond, false, true, List, [], ◌∷◌, ◌≡◌, refl, ◌+◌, ◌-◌, ◌^◌, suc, zero, ℕ, eqb, ltb, length}
 use mathlib.Core.Option.{Option, none, some}
-use mathlib.Core.Path.{◌≡◌, refl}
-use Prim.Native.Nat.{◌+◌, ◌-◌, ◌^◌, suc, zero, ℕ}
-use lib.Dec.{eqb, ltb}
-use lib.ListN.{length}
 use Rattle.agreement.specs.Riscv.Immediates.{sign_extend}
 use Rattle.agreement.specs.Riscv.Instruction.{Op, bits_of, overflows, quotient, quotient_u, remainder, remainder_u, signed, value_op}
 use Rattle.agreement.specs.Riscv.Instruction.Op.{DIV, DIVU, DIVUW, DIVW, MULH, MULHSU, MULHU, REM, REMU, REMUW, REMW}

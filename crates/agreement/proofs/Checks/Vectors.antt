@@ -1,10 +1,6 @@
 -- Further vectors of the definitions: replies, bytes and immediates as the original Rust gives them. Two things are document 02's, Q-2:
 -- number 5 goes by 4,099 in place of 2,243, and the rest of M is taken; its bytes are what an assembler makes of the host instructions.
-use mathlib.Core.Path.{◌≡◌, refl}
-use mathlib.Core.Bool.{Bool, true, ◌&&◌}
-use mathlib.Core.List.{List, [], ◌∷◌, ◌++◌}
-use Prim.Native.Nat.{ℕ, ◌-◌, ◌^◌}
-use lib.ListN.{length}
+use Rattle.std.proofs.Common.{◌≡◌, refl, Bool, true, ◌&&◌, List, [], ◌∷◌, ◌++◌, ℕ, ◌-◌, ◌^◌, length}
 use Rattle.agreement.specs.Translation.Replies.{Reply, translate}
 use Rattle.agreement.proofs.Checks.Cases.{is_reply, holds, dump, framed, copies, words}
 use Rattle.agreement.proofs.Checks.Cases.Format.{I, S, B, U, J}

@@ -1,8 +1,5 @@
 -- What the theorem says of the example's two lists: each turn's visit, and pc, registers and count at the end.
-use mathlib.Core.List.{List, [], ◌∷◌}
-use mathlib.Core.Path.{◌∙◌, ◌≡◌, refl}
-use Prim.Native.Nat.{◌*◌}
-use native.Mathlib.Omega.{arith}
+use Rattle.std.proofs.Common.{List, [], ◌∷◌, ◌∙◌, ◌≡◌, refl, ◌*◌, arith}
 use Rattle.agreement.specs.Common.{Helper.for_access, Helper.for_halfword}
 use Rattle.agreement.specs.Riscv.Run.{GuestState}
 use Rattle.agreement.specs.Statement.Agreement.{At, after}

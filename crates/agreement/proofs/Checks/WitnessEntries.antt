@@ -1,11 +1,5 @@
 -- What the theorem says of the example's entries, field by field, as numbers: every field of `Returns`, `Helped` and `Plain`.
-use mathlib.Core.Bool.{Bool, false, not, true}
-use mathlib.Core.List.{List, [], ◌∷◌}
-use mathlib.Core.Path.{◌∙◌, ◌≡◌, ap, refl, sym}
-use Prim.Native.Nat.{◌%◌, ◌+◌, ◌-◌, ◌≤◌, ℕ}
-use native.Mathlib.Omega.{arith}
-use lib.Dec.{eqb}
-use lib.ListN.{length}
+use Rattle.std.proofs.Common.{Bool, false, not, true, List, [], ◌∷◌, ◌∙◌, ◌≡◌, ap, refl, sym, ◌%◌, ◌+◌, ◌-◌, ◌≤◌, ℕ, arith, eqb, length}
 use Rattle.agreement.specs.Common.{Helper, Helper.for_access, Helper.for_halfword}
 use Rattle.agreement.specs.Riscv.Code.{Code, run_at}
 use Rattle.agreement.specs.Riscv.Run.{GuestState, Stop.called, help}

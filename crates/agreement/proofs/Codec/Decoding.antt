@@ -1,13 +1,9 @@
 -- Decoding what the encoder writes gives the instruction back, and its length.
-use mathlib.Core.Bool.{false, true}
-use mathlib.Core.List.{List, ◌++◌, ◌∷◌, append_assoc}
+use Rattle.std.proofs.Common.{false, true, List, ◌++◌, ◌∷◌, append_assoc, ◌∙◌, ◌≡◌, refl, ◌%◌, ◌*◌, ◌+◌, ◌/◌, ◌<◌, ◌^◌, ◌≤◌, suc, zero, ℕ}
+use Rattle.std.proofs.Common.{pow-suc, arith, eqb, ltb}
 use mathlib.Core.Option.{some}
-use mathlib.Core.Path.{◌∙◌, ◌≡◌, refl}
-use Prim.Native.Nat.{◌%◌, ◌*◌, ◌+◌, ◌/◌, ◌<◌, ◌^◌, ◌≤◌, suc, zero, ℕ}
 use native.Mathlib.Decide.{dec_le, ℕ_discrete}
-use native.Mathlib.Nat.{pow-suc, pow-zero}
-use native.Mathlib.Omega.{arith}
-use lib.Dec.{eqb, ltb}
+use native.Mathlib.Nat.{pow-zero}
 use Rattle.agreement.specs.X86.Decode.{Answer, Operand, alu_of, cc_of, decode, imm, loaded, memory, modrm, moved, on_reg, only, opcode_0f}
 use Rattle.agreement.specs.X86.Decode.{opcode1, pick, shift_of, sib, width_of, mul_div_of}
 use Rattle.agreement.specs.X86.Decode.Operand.{mem, reg}

@@ -1,13 +1,9 @@
 -- What the decoder takes is what the encoder writes.
-use mathlib.Core.Bool.{Bool, ◌&&◌, cond, false, not, true}
-use mathlib.Core.List.{List, [], ◌++◌, ◌∷◌, append_assoc}
+use Rattle.std.proofs.Common.{Bool, ◌&&◌, cond, false, not, true, List, [], ◌++◌, ◌∷◌, append_assoc, ◌∙◌, ◌≡◌, ap, refl, subst, ◌%◌, ◌*◌}
+use Rattle.std.proofs.Common.{◌+◌, ◌/◌, ◌<◌, ◌^◌, suc, zero, ℕ, pow-suc, arith, eqb, eqb→eq, ltb, ltb→lt}
 use mathlib.Core.Option.{none, some}
-use mathlib.Core.Path.{◌∙◌, ◌≡◌, ap, refl, subst}
-use Prim.Native.Nat.{◌%◌, ◌*◌, ◌+◌, ◌/◌, ◌<◌, ◌^◌, suc, zero, ℕ}
 use native.Mathlib.Decide.{ℕ_discrete}
-use native.Mathlib.Nat.{pow-suc, pow-zero}
-use native.Mathlib.Omega.{arith}
-use lib.Dec.{eqb, eqb→eq, ltb, ltb→lt}
+use native.Mathlib.Nat.{pow-zero}
 use Rattle.agreement.specs.Laws.{Decodes, Encodes}
 use Rattle.agreement.specs.X86.Decode.{Answer, Bytes, Operand, alu_of, cc_of, decode, imm, loaded, memory, modrm, moved, on_reg, only}
 use Rattle.agreement.specs.X86.Decode.{opcode_0f, opcode1, pick, shift_of, sib, width_of, mul_div_of}

@@ -1,12 +1,7 @@
 -- From bytes in memory to a step.
-use mathlib.Core.Bool.{Bool, cond, false, true}
-use mathlib.Core.List.{List, [], ◌++◌, ◌∷◌}
+use Rattle.std.proofs.Common.{Bool, cond, false, true, List, [], ◌++◌, ◌∷◌, ◌∙◌, ◌≡◌, ap, refl, ◌%◌, ◌*◌, ◌+◌, ◌-◌, ◌/◌, ◌<◌, ◌^◌, ◌≤◌, suc}
+use Rattle.std.proofs.Common.{zero, ℕ, arith, eqb, length, length-append}
 use mathlib.Core.Option.{some}
-use mathlib.Core.Path.{◌∙◌, ◌≡◌, ap, refl}
-use Prim.Native.Nat.{◌%◌, ◌*◌, ◌+◌, ◌-◌, ◌/◌, ◌<◌, ◌^◌, ◌≤◌, suc, zero, ℕ}
-use native.Mathlib.Omega.{arith}
-use lib.Dec.{eqb}
-use lib.ListN.{length, length-append}
 use Rattle.agreement.specs.X86.Encode.{encode, mod_mem, rex}
 use Rattle.agreement.specs.X86.Execute.{accesses, exec, faults}
 use Rattle.agreement.specs.X86.Form.{Instr, Ok, Width}

@@ -1,9 +1,5 @@
 -- Instructions without a jump among them, and how many steps a way through instructions takes.
-use mathlib.Core.Bool.{Bool, false, true}
-use mathlib.Core.List.{List, [], ◌∷◌}
-use mathlib.Core.Path.{◌≡◌}
-use Prim.Native.Nat.{◌≤◌, ℕ}
-use lib.ListN.{length}
+use Rattle.std.proofs.Common.{Bool, false, true, List, [], ◌∷◌, ◌≡◌, ◌≤◌, ℕ, length}
 use Rattle.agreement.specs.X86.Form.{Instr}
 use Rattle.agreement.specs.X86.Form.Instr.{alu, alu_imm32, alu_imm8, call_rax, cmov, cqo, imul, jcc, load, mov, mov_imm64, movsxd, movzx}
 use Rattle.agreement.specs.X86.Form.Instr.{mul_div, pop, push, ret, setcc_al, shift_cl, shift_imm8, store}

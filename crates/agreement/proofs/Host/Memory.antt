@@ -1,9 +1,6 @@
 -- Laws of memory: what is read after a write, there and elsewhere.
-use mathlib.Core.Logic.{◌≢◌}
-use mathlib.Core.Path.{◌∙◌, ◌≡◌, ap, refl, sym}
-use Prim.Native.Nat.{◌%◌, ◌*◌, ◌+◌, ◌/◌, ◌<◌, ◌^◌, ◌≤◌, suc, zero, ℕ}
-use native.Mathlib.Nat.{pow-suc, pow-zero}
-use native.Mathlib.Omega.{arith}
+use Rattle.std.proofs.Common.{◌≢◌, ◌∙◌, ◌≡◌, ap, refl, sym, ◌%◌, ◌*◌, ◌+◌, ◌/◌, ◌<◌, ◌^◌, ◌≤◌, suc, zero, ℕ, pow-suc, arith}
+use native.Mathlib.Nat.{pow-zero}
 use lib.Arith.{mod-mul}
 use Rattle.agreement.specs.X86.Memory.{Memory, at, put, read, up, write}
 use Rattle.agreement.proofs.Laws.Tests.{eqb_no, eqb_yes}

@@ -1,11 +1,6 @@
 -- A way through a list of instructions, some of which jump over others.
-use mathlib.Core.Bool.{Bool, false, true}
-use mathlib.Core.List.{List, [], ◌++◌, ◌∷◌, append_assoc}
-use mathlib.Core.Logic.{◌≢◌}
-use mathlib.Core.Path.{◌∙◌, ◌≡◌, ap, refl, sym}
-use Prim.Native.Nat.{◌+◌, ◌≤◌, suc, ℕ}
-use native.Mathlib.Omega.{arith}
-use lib.ListN.{length, length-append}
+use Rattle.std.proofs.Common.{Bool, false, true, List, [], ◌++◌, ◌∷◌, append_assoc, ◌≢◌, ◌∙◌, ◌≡◌, ap, refl, sym, ◌+◌, ◌≤◌, suc, ℕ, arith}
+use Rattle.std.proofs.Common.{length, length-append}
 use Rattle.agreement.proofs.Host.Jumpless.{StepsThrough, is_jump, jumpless}
 use Rattle.agreement.specs.X86.Encode.{bytes, encode}
 use Rattle.agreement.specs.X86.Execute.{faults}

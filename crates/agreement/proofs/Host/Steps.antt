@@ -1,8 +1,6 @@
 -- The relation of the statement is the function that runs the model.
-use mathlib.Core.List.{List}
+use Rattle.std.proofs.Common.{List, ◌≡◌, refl, ℕ}
 use mathlib.Core.Option.{some}
-use mathlib.Core.Path.{◌≡◌, refl}
-use Prim.Native.Nat.{ℕ}
 use Rattle.agreement.specs.Laws.{StepsAlike}
 use Rattle.agreement.specs.X86.State.{Flags, Permissions, State}
 use Rattle.agreement.specs.X86.Step.{Goes, Goes.done, Goes.more, steps}

@@ -1,13 +1,7 @@
 -- Running a list of straight instructions, and what the log of a run says.
-use mathlib.Core.Bool.{Bool, false, true}
-use mathlib.Core.List.{List, [], ◌++◌, ◌∷◌, append_assoc}
-use mathlib.Core.Logic.{◌≢◌}
+use Rattle.std.proofs.Common.{Bool, false, true, List, [], ◌++◌, ◌∷◌, append_assoc, ◌≢◌, ◌∙◌, ◌≡◌, ap, refl, subst, sym, ◌+◌, ◌<◌, ◌^◌, suc}
+use Rattle.std.proofs.Common.{zero, ℕ, arith, T, length, length-append}
 use mathlib.Core.Option.{Option, none, some}
-use mathlib.Core.Path.{◌∙◌, ◌≡◌, ap, refl, subst, sym}
-use Prim.Native.Nat.{◌+◌, ◌<◌, ◌^◌, suc, zero, ℕ}
-use native.Mathlib.Omega.{arith}
-use lib.Dec.{T}
-use lib.ListN.{length, length-append}
 use Rattle.agreement.specs.X86.Encode.{bytes, encode}
 use Rattle.agreement.specs.X86.Execute.{accesses, below, exec, operand, division_faults, faults}
 use Rattle.agreement.specs.X86.Form.{Instr, Ok, MulDiv}

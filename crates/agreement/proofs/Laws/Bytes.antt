@@ -1,9 +1,6 @@
 -- The bytes of a number, the least significant first: how many they are, and one more behind k others.
-use mathlib.Core.Path.{◌≡◌, refl, sym, ap, ◌∙◌}
-use mathlib.Core.List.{List, [], ◌∷◌, ◌++◌}
-use Prim.Native.Nat.{ℕ, zero, suc, ◌/◌, ◌%◌, ◌^◌}
-use native.Mathlib.Nat.{div-one, div-div-eq-div-mul, pow-suc, pow-succ'}
-use lib.ListN.{length}
+use Rattle.std.proofs.Common.{◌≡◌, refl, sym, ap, ◌∙◌, List, [], ◌∷◌, ◌++◌, ℕ, zero, suc, ◌/◌, ◌%◌, ◌^◌, div-one, pow-suc, length}
+use native.Mathlib.Nat.{div-div-eq-div-mul, pow-succ'}
 use Rattle.agreement.specs.X86.Memory.{bytes_of}
 
 pub len_le : (n v : ℕ) → length (bytes_of n v) ≡ n

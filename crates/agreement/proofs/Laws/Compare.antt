@@ -1,11 +1,8 @@
 -- After CMP: L is the signed order, B the unsigned one, E equality, once over the width.
-use mathlib.Core.Bool.{Bool, ◌&&◌, cond, false, true}
-use mathlib.Core.Path.{◌∙◌, ◌≡◌, refl, sym}
-use Prim.Native.Nat.{◌%◌, ◌+◌, ◌-◌, ◌<◌, ◌^◌, ◌≤◌, suc, ℕ}
+use Rattle.std.proofs.Common.{Bool, ◌&&◌, cond, false, true, ◌∙◌, ◌≡◌, refl, sym, ◌%◌, ◌+◌, ◌-◌, ◌<◌, ◌^◌, ◌≤◌, suc, ℕ, mod-eq_of_lt}
+use Rattle.std.proofs.Common.{mul-div_cancel, pow-suc, arith, eqb, leb, ltb}
 use native.Mathlib.Decide.{dec_le}
-use native.Mathlib.Nat.{add-mod_right, mod-eq_of_lt, mul-div_cancel, pow-suc}
-use native.Mathlib.Omega.{arith}
-use lib.Dec.{eqb, leb, ltb}
+use native.Mathlib.Nat.{add-mod_right}
 use lib.IntN.{ℤ.negsuc, ℤ.pos}
 use lib.Signed.{lt_z}
 use Rattle.agreement.specs.Laws.{ComparesByFlags}

@@ -1,11 +1,8 @@
 -- The fields that decode.rs takes by shift and mask are the manual's.
-use mathlib.Core.Path.{◌∙◌, ◌≡◌, refl}
-use Prim.Native.Nat.{◌%◌, ◌/◌, ◌<◌, ◌^◌, ℕ}
+use Rattle.std.proofs.Common.{◌∙◌, ◌≡◌, refl, ◌%◌, ◌/◌, ◌<◌, ◌^◌, ℕ, arith, bit_and, eqb, shr-shr}
 use native.Mathlib.Nat.{mod-mod}
-use native.Mathlib.Omega.{arith}
-use lib.Bits.{and_mask, bit_and, or_shifted}
-use lib.Dec.{eqb}
-use lib.Pow.{field, mod-mod-pow, shr-shr}
+use lib.Bits.{and_mask, or_shifted}
+use lib.Pow.{field, mod-mod-pow}
 use Rattle.agreement.specs.Riscv.Fields.{bits, funct3, funct6, funct7, opcode, rd, rs1, rs2, shamt5, shamt6}
 use Rattle.agreement.specs.Riscv.Run.{is_long, word_of}
 use Rattle.agreement.specs.Translation.Decode32 as Decode32

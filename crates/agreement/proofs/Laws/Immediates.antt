@@ -1,11 +1,8 @@
 -- The immediates of decode.rs are the manual's, and their ranges. Sign extension is cited at 12, 13, 21 and 32 bits.
-use mathlib.Core.Bool.{Bool, cond, false, true}
-use mathlib.Core.Path.{◌∙◌, ◌≡◌, refl}
-use Prim.Native.Nat.{◌%◌, ◌*◌, ◌+◌, ◌-◌, ◌/◌, ◌<◌, ◌^◌, ◌≤◌, ℕ}
-use native.Mathlib.Nat.{add-mod_right, mod-eq_of_lt}
-use native.Mathlib.Omega.{arith}
-use lib.Bits.{and_high, and_mask, bit_and, bit_or, or_shifted}
-use lib.Dec.{leb}
+use Rattle.std.proofs.Common.{Bool, cond, false, true, ◌∙◌, ◌≡◌, refl, ◌%◌, ◌*◌, ◌+◌, ◌-◌, ◌/◌, ◌<◌, ◌^◌, ◌≤◌, ℕ, mod-eq_of_lt, arith}
+use Rattle.std.proofs.Common.{bit_and, bit_or, leb}
+use native.Mathlib.Nat.{add-mod_right}
+use lib.Bits.{and_high, and_mask, or_shifted}
 use lib.Pow.{split}
 use Rattle.agreement.specs.Laws.{ImmediatesAlike, Ranges}
 use Rattle.agreement.specs.Riscv.Fields.{bits}

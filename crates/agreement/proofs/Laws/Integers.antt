@@ -1,14 +1,11 @@
 -- Two's complement, product and division of the manual, tied to the integers.
-use mathlib.Core.Bool.{false, true}
-use mathlib.Core.Logic.{◌≢◌}
-use mathlib.Core.Path.{◌∙◌, ◌≡◌, ap, refl, sym}
-use Prim.Native.Nat.{◌%◌, ◌*◌, ◌+◌, ◌-◌, ◌/◌, ◌<◌, ◌^◌, ◌≤◌, suc, zero, ℕ}
+use Rattle.std.proofs.Common.{false, true, ◌≢◌, ◌∙◌, ◌≡◌, ap, refl, sym, ◌%◌, ◌*◌, ◌+◌, ◌-◌, ◌/◌, ◌<◌, ◌^◌, ◌≤◌, suc, zero, ℕ, div-add-mod'}
+use Rattle.std.proofs.Common.{div-lt_iff_lt-mul, div-one, mod-eq_of_lt, mod-lt, mul_comm, mul-pos, mul-zero, arith, ◌*ℤ◌, ◌+ℤ◌, nat_abs}
+use Rattle.std.proofs.Common.{neg_ℤ, ℤ, pow-add, pow_pos}
 use native.Mathlib.Decide.{dec_lt, ℕ_discrete}
-use native.Mathlib.Nat.{div-add-mod', div-lt_iff_lt-mul, div-one, dvd-mul_left, mod-eq_of_lt, mod-lt, mod-mod_of_dvd}
-use native.Mathlib.Nat.{mul-add-mod_self_right, mul_comm, mul-pos, mul-zero}
-use native.Mathlib.Omega.{arith}
-use lib.IntN.{◌*ℤ◌, ◌+ℤ◌, nat_abs, neg_ℤ, neg_ℤ-+ℤ, ℤ, ℤ.negsuc, ℤ.pos}
-use lib.Pow.{pow-add, pow_pos}
+use native.Mathlib.Nat.{dvd-mul_left, mod-mod_of_dvd}
+use native.Mathlib.Nat.{mul-add-mod_self_right}
+use lib.IntN.{neg_ℤ-+ℤ, ℤ.negsuc, ℤ.pos}
 use lib.Signed.{mag, mag_rem, non_neg, quot_z, rem_z}
 use Rattle.agreement.specs.Laws.{DivideTowardZero, DivideUnsigned, IntegersHaveBits, StandForIntegers}
 use Rattle.agreement.specs.Laws.{UpperHalves}

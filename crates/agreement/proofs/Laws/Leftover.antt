@@ -1,8 +1,5 @@
 -- What holds of each kind of leftover holds of what a word that is not taken leaves.
-use mathlib.Core.Bool.{Bool, cond, false, true}
-use mathlib.Core.List.{List, [], ◌∷◌}
-use Prim.Native.Nat.{ℕ}
-use lib.Dec.{eqb}
+use Rattle.std.proofs.Common.{Bool, cond, false, true, List, [], ◌∷◌, ℕ, eqb}
 use Rattle.agreement.specs.Translation.Emit.{compare, leftover, load_reg}
 use Rattle.agreement.specs.X86.Form.{Instr, R10, R11}
 

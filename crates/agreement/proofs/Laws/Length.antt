@@ -1,12 +1,6 @@
 -- No block is shorter than 67 or longer than 4,099 bytes.
-use mathlib.Core.Bool.{Bool, cond, false, true}
-use mathlib.Core.List.{List, [], ◌++◌, ◌∷◌}
-use mathlib.Core.Path.{◌≡◌, refl}
-use Prim.Native.Nat.{◌%◌, ◌*◌, ◌+◌, ◌-◌, ◌^◌, ◌≤◌, min, suc, zero, ℕ}
-use native.Mathlib.Omega.{arith}
-use lib.Bits.{bit_and}
-use lib.Dec.{eqb, ltb}
-use lib.ListN.{length, length-append}
+use Rattle.std.proofs.Common.{Bool, cond, false, true, List, [], ◌++◌, ◌∷◌, ◌≡◌, refl, ◌%◌, ◌*◌, ◌+◌, ◌-◌, ◌^◌, ◌≤◌, min, suc, zero, ℕ}
+use Rattle.std.proofs.Common.{arith, bit_and, eqb, ltb, length, length-append}
 use Rattle.agreement.specs.Common.{Helper, Helper.for_access, Helper.for_halfword, greatest, most_steps}
 use Rattle.agreement.specs.Laws.{Lengths}
 use Rattle.agreement.specs.Riscv.Fields.{plus}

@@ -1,11 +1,6 @@
 -- The matches of Translation/Kind: what holds of every arm holds of the match; where no arm fits; the match on the manual's fields.
-use mathlib.Core.Path.{◌≡◌, refl}
-use mathlib.Core.Logic.{◌≢◌}
-use mathlib.Core.Bool.{Bool, true, false, cond}
-use mathlib.Core.List.{List, [], ◌∷◌}
-use Prim.Native.Nat.{ℕ}
+use Rattle.std.proofs.Common.{◌≡◌, refl, ◌≢◌, Bool, true, false, cond, List, [], ◌∷◌, ℕ, eqb}
 use native.Mathlib.Decide.{ℕ_discrete}
-use lib.Dec.{eqb}
 use Rattle.agreement.specs.Riscv.Instruction.{Instruction, Instruction.other}
 use Rattle.agreement.specs.Riscv.Fields.{opcode, funct3, funct7, funct6}
 use Rattle.agreement.specs.Translation.Kind.{Arm, match, kind, kind_of}

@@ -1,12 +1,7 @@
 -- The Rust's tests and the manual's rows take every word for the same instruction.
-use mathlib.Core.Bool.{Bool, ◌&&◌, cond, false, true}
-use mathlib.Core.List.{List, [], ◌++◌, ◌∷◌}
-use mathlib.Core.Logic.{◌≢◌}
-use mathlib.Core.Path.{◌∙◌, ◌≡◌, ap, refl, subst, sym}
-use Prim.Native.Nat.{◌<◌, suc, zero, ℕ}
+use Rattle.std.proofs.Common.{Bool, ◌&&◌, cond, false, true, List, [], ◌++◌, ◌∷◌, ◌≢◌, ◌∙◌, ◌≡◌, ap, refl, subst, sym, ◌<◌, suc, zero, ℕ}
+use Rattle.std.proofs.Common.{arith, eqb, eqb→eq}
 use native.Mathlib.Decide.{ℕ_discrete}
-use native.Mathlib.Omega.{arith}
-use lib.Dec.{eqb, eqb→eq}
 use Rattle.agreement.specs.Laws.{NamesAlike, TakenAlike}
 use Rattle.agreement.specs.Riscv.Fields.{funct3, funct6, funct7, opcode}
 use Rattle.agreement.specs.Riscv.Instruction.{Instruction, Row, access_rows, branch_rows, environment_rows, find, find_in, listing, named}

@@ -1,9 +1,5 @@
 -- What a block's reply leaves in the output.
-use mathlib.Core.List.{List, [], ◌++◌, ◌∷◌}
-use mathlib.Core.Path.{◌∙◌, ◌≡◌, ap, refl}
-use Prim.Native.Nat.{ℕ}
-use native.Mathlib.Omega.{arith}
-use lib.ListN.{drop, length, length-append, length-drop, take}
+use Rattle.std.proofs.Common.{List, [], ◌++◌, ◌∷◌, ◌∙◌, ◌≡◌, ap, refl, ℕ, arith, drop, length, length-append, length-drop, take}
 use Rattle.agreement.specs.Laws.{OutputsBlock}
 use Rattle.agreement.specs.Translation.Replies.{output_after}
 

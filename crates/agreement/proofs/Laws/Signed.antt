@@ -1,16 +1,15 @@
 -- Integers and their bits: products, quotients and remainders, as M and the host have them.
-use mathlib.Core.Bool.{Bool, ◌&&◌, cond, false, true}
-use mathlib.Core.Logic.{◌≢◌}
-use mathlib.Core.Path.{◌∙◌, ◌≡◌, ap, refl, sym}
-use Prim.Native.Nat.{◌%◌, ◌*◌, ◌+◌, ◌-◌, ◌/◌, ◌<◌, ◌^◌, ◌≤◌, suc, zero, ℕ}
+use Rattle.std.proofs.Common.{Bool, ◌&&◌, cond, false, true, ◌≢◌, ◌∙◌, ◌≡◌, ap, refl, sym, ◌%◌, ◌*◌, ◌+◌, ◌-◌, ◌/◌, ◌<◌, ◌^◌, ◌≤◌, suc}
+use Rattle.std.proofs.Common.{zero, ℕ, add-mul, div-add-mod', div-le_self, div-lt_iff_lt-mul, div-one, le-add_right, le_trans}
+use Rattle.std.proofs.Common.{lt_of_le_of_lt, lt_of_lt_of_le, mod-eq_of_lt, mod-lt, mul_comm, mul-le-mul_left, mul-le-mul_right}
+use Rattle.std.proofs.Common.{mul-lt-mul_of_pos_right, mul-pos, mul-zero, zero-lt-suc, zero-mul, arith, eqb, ◌*ℤ◌, neg_ℤ, ℤ, pow-add}
+use Rattle.std.proofs.Common.{pow_mono, pow_pos, shr_lt}
 use native.Mathlib.Decide.{dec_lt, ℕ_discrete}
-use native.Mathlib.Nat.{add-mul, div-add-mod', div-le_self, div-lt_iff_lt-mul, div-lt_self, div-one, le-add_right, le_trans, lt_of_le_of_lt}
-use native.Mathlib.Nat.{lt_of_lt_of_le, mod-eq_of_lt, mod-le, mod-lt, mod-one, mod_self, mul-add-mod_self_right, mul_comm, mul-le-mul_left}
-use native.Mathlib.Nat.{mul-le-mul_right, mul-lt-mul_of_pos_right, mul-pos, mul-zero, zero-lt-suc, zero-mod, zero-mul}
-use native.Mathlib.Omega.{arith}
-use lib.Dec.{eqb}
-use lib.IntN.{◌*ℤ◌, neg_ℤ, pos-ne-negsuc, ℤ, ℤ.negsuc, ℤ.pos}
-use lib.Pow.{le_ones, ones_lt, pow-add, pow_mono, pow_pos, shr_lt, suc_ones}
+use native.Mathlib.Nat.{div-lt_self}
+use native.Mathlib.Nat.{mod-le, mod-one, mod_self, mul-add-mod_self_right}
+use native.Mathlib.Nat.{zero-mod}
+use lib.IntN.{pos-ne-negsuc, ℤ.negsuc, ℤ.pos}
+use lib.Pow.{le_ones, ones_lt, suc_ones}
 use lib.Signed.{mag, quot_z, rem_z}
 use Rattle.agreement.specs.Riscv.Instruction.{bits_of, overflows, quotient, quotient_u, remainder, remainder_u, signed, upper_half}
 use Rattle.agreement.specs.X86.Flags.{as_bits, as_signed, negative, shifted}

@@ -1,10 +1,6 @@
 -- Boolean tests on numbers, decided.
-use mathlib.Core.Bool.{Bool, false, not, true}
-use mathlib.Core.Logic.{◌≢◌}
-use mathlib.Core.Path.{◌≡◌, refl, subst}
-use Prim.Native.Nat.{◌<◌, ◌≤◌, ℕ}
-use native.Mathlib.Omega.{arith}
-use lib.Dec.{T, eqb, eqb_refl, eqb→eq, leb, leb→le, le→leb, nleb→lt}
+use Rattle.std.proofs.Common.{Bool, false, not, true, ◌≢◌, ◌≡◌, refl, subst, ◌<◌, ◌≤◌, ℕ, arith, T, eqb, eqb→eq, leb, leb→le, le→leb}
+use lib.Dec.{eqb_refl, nleb→lt}
 
 pub yes_is : (b : Bool) → T b → b ≡ true
 yes_is true t = refl

@@ -1,7 +1,5 @@
 -- A number with its values, as replies are given: where two are equal, so are their numbers and the first two values.
-use mathlib.Core.List.{List, [], ◌∷◌}
-use mathlib.Core.Path.{◌≡◌, ap}
-use Prim.Native.Nat.{ℕ}
+use Rattle.std.proofs.Common.{List, [], ◌∷◌, ◌≡◌, ap, ℕ}
 
 abbrev pub first : List ℕ → ℕ
 first [] = 0

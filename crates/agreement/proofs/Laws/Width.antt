@@ -1,12 +1,10 @@
 -- Sign extension and arithmetic shift, once over the width: the manual's, the SDM's and the Rust's are the same numbers.
-use mathlib.Core.Bool.{Bool, cond, false, true}
-use mathlib.Core.Path.{◌∙◌, ◌≡◌, ap, sym}
-use Prim.Native.Nat.{◌%◌, ◌*◌, ◌+◌, ◌-◌, ◌/◌, ◌<◌, ◌^◌, ◌≤◌, suc, ℕ}
+use Rattle.std.proofs.Common.{Bool, cond, false, true, ◌∙◌, ◌≡◌, ap, sym, ◌%◌, ◌*◌, ◌+◌, ◌-◌, ◌/◌, ◌<◌, ◌^◌, ◌≤◌, suc, ℕ, mod-lt}
+use Rattle.std.proofs.Common.{mul-div_cancel, mul-le-mul_right, mul-lt-mul_of_pos_right, pow-suc, arith, leb, pow-add, pow_mono, pow_pos}
+use Rattle.std.proofs.Common.{shl_exact, shr_lt}
 use native.Mathlib.Decide.{dec_lt}
-use native.Mathlib.Nat.{div-eq_of_lt, div-eq_of_lt-le, mod-lt, mod-mod, mul-div_cancel, mul-le-mul_right, mul-lt-mul_of_pos_right, pow-suc}
-use native.Mathlib.Omega.{arith}
-use lib.Dec.{leb}
-use lib.Pow.{pow-add, pow_mono, pow_pos, shl_exact, shl-shr, shr_le, shr_lt, split}
+use native.Mathlib.Nat.{div-eq_of_lt, div-eq_of_lt-le, mod-mod}
+use lib.Pow.{shl-shr, shr_le, split}
 use Rattle.agreement.specs.Laws.{ShiftsArithmetic, SignExtends, SignExtendsByShifts}
 use Rattle.agreement.specs.Riscv.Instruction.{shift_right_arithmetic, word}
 use Rattle.agreement.specs.X86.Flags.{negative, sext, shifted}

@@ -1,8 +1,5 @@
 -- The agreement theorem, by induction on the list of turns.
-use mathlib.Core.List.{List, [], ◌∷◌}
-use mathlib.Core.Path.{◌∙◌, ◌≡◌, ap, refl, subst}
-use Prim.Native.Nat.{◌*◌, ◌<◌, ◌^◌, ℕ}
-use native.Mathlib.Omega.{arith}
+use Rattle.std.proofs.Common.{List, [], ◌∷◌, ◌∙◌, ◌≡◌, ap, refl, subst, ◌*◌, ◌<◌, ◌^◌, ℕ, arith}
 use Rattle.agreement.specs.Riscv.Run.{GuestState, manual, turn}
 use Rattle.agreement.specs.Translation.Replies.{Block, Reply.block}
 use Rattle.agreement.specs.Statement.Agreement.{Agreement, Along, At, feed, feeds, start}

@@ -1,8 +1,5 @@
 -- A list of turns taken along the manual's run, turn by turn: what is asked of it, and where it ends.
-use mathlib.Core.Bool.{false, true}
-use mathlib.Core.List.{List, [], ◌∷◌}
-use mathlib.Core.Path.{◌≡◌, subst, sym}
-use Prim.Native.Nat.{◌<◌, ◌^◌, ℕ}
+use Rattle.std.proofs.Common.{false, true, List, [], ◌∷◌, ◌≡◌, subst, sym, ◌<◌, ◌^◌, ℕ}
 use Rattle.agreement.specs.Common.{Helper}
 use Rattle.agreement.specs.Riscv.Run.{GuestState, Stop.called, Stop.plain, manual, turn}
 use Rattle.agreement.specs.Translation.Replies.{Block, Reply.block}

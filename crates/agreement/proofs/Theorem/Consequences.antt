@@ -1,10 +1,6 @@
 -- What the theorem says of one turn of a known kind: how the manual's state goes on, how the block was entered, and all that holds of it.
-use mathlib.Core.Bool.{false, true}
+use Rattle.std.proofs.Common.{false, true, ◌∙◌, ◌≡◌, refl, sym, ◌*◌, ◌+◌, ℕ, arith, length}
 use mathlib.Core.Option.{Option, none, some}
-use mathlib.Core.Path.{◌∙◌, ◌≡◌, refl, sym}
-use Prim.Native.Nat.{◌*◌, ◌+◌, ℕ}
-use native.Mathlib.Omega.{arith}
-use lib.ListN.{length}
 use Rattle.agreement.specs.Common.{Helper}
 use Rattle.agreement.specs.Riscv.Run.{Feed, GuestState, Left, Read, Stop.called, Stop.plain, read_turn, turn}
 use Rattle.agreement.specs.Translation.Replies.{Block, Reply.block}

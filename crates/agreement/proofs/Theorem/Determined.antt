@@ -1,10 +1,6 @@
 -- A list of turns has no second history.
-use mathlib.Core.List.{List}
-use mathlib.Core.Logic.{◌≢◌}
+use Rattle.std.proofs.Common.{List, ◌≢◌, ◌∙◌, ◌≡◌, ap, refl, subst, sym, suc, ℕ, arith}
 use mathlib.Core.Option.{some}
-use mathlib.Core.Path.{◌∙◌, ◌≡◌, ap, refl, subst, sym}
-use Prim.Native.Nat.{suc, ℕ}
-use native.Mathlib.Omega.{arith}
 use Rattle.agreement.specs.Translation.Replies.{Block, Refusal, Reply.block, Reply.refusal}
 use Rattle.agreement.specs.Statement.Machine.{By, Event, History, RegisterBytes, Turn, Turned, Visit, Went, enter}
 use Rattle.agreement.specs.Statement.Machine.History.{end, then}

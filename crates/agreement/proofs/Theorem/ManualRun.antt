@@ -1,12 +1,7 @@
 -- The manual's run by itself: it keeps x0 and a 64-bit pc, and how a turn changes its state.
-use mathlib.Core.Bool.{Bool, cond, false, true}
-use mathlib.Core.List.{List, [], ◌∷◌}
+use Rattle.std.proofs.Common.{Bool, cond, false, true, List, [], ◌∷◌, ◌∙◌, ◌≡◌, refl, sym, ◌+◌, ◌<◌, ◌^◌, suc, zero, ℕ, arith, eqb}
 use mathlib.Core.Option.{some}
-use mathlib.Core.Path.{◌∙◌, ◌≡◌, refl, sym}
-use Prim.Native.Nat.{◌+◌, ◌<◌, ◌^◌, suc, zero, ℕ}
 use native.Mathlib.Decide.{ℕ_discrete}
-use native.Mathlib.Omega.{arith}
-use lib.Dec.{eqb}
 use Rattle.agreement.specs.Common.{Helper, Helper.for_halfword}
 use Rattle.agreement.specs.Riscv.Fields.{plus, rd, rs1, rs2}
 use Rattle.agreement.specs.Riscv.Instruction.{Instruction, branches}

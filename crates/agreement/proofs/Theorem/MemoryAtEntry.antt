@@ -1,14 +1,7 @@
 -- How a turn's block and register bytes stand in memory at entry.
-use mathlib.Core.Bool.{Bool, ◌&&◌, cond, false, true}
-use mathlib.Core.List.{List, [], ◌++◌, ◌∷◌}
-use mathlib.Core.Logic.{◌≢◌}
-use mathlib.Core.Path.{◌≡◌, refl}
-use Prim.Native.Nat.{◌%◌, ◌*◌, ◌+◌, ◌-◌, ◌/◌, ◌<◌, ◌^◌, ◌≤◌, suc, zero, ℕ}
+use Rattle.std.proofs.Common.{Bool, ◌&&◌, cond, false, true, List, [], ◌++◌, ◌∷◌, ◌≢◌, ◌≡◌, refl, ◌%◌, ◌*◌, ◌+◌, ◌-◌, ◌/◌, ◌<◌, ◌^◌, ◌≤◌}
+use Rattle.std.proofs.Common.{suc, zero, ℕ, mod-eq_of_lt, arith, eqb, leb, ltb, length}
 use native.Mathlib.Decide.{dec_le, dec_lt}
-use native.Mathlib.Nat.{mod-eq_of_lt}
-use native.Mathlib.Omega.{arith}
-use lib.Dec.{eqb, leb, ltb}
-use lib.ListN.{length}
 use Rattle.agreement.specs.Statement.Machine.{RegisterBytes}
 use Rattle.agreement.specs.X86.Decode.{Bytes}
 use Rattle.agreement.specs.X86.Encode.{bytes, cc_number, encode, mod_mem, mod_reg, rex, shift_digit, mul_div_digit}

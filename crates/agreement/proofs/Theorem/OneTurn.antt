@@ -1,12 +1,7 @@
 -- One turn that is not refused: its block is entered and returns, and the manual's run goes the same way.
-use mathlib.Core.Bool.{Bool, ◌&&◌, ◌||◌, cond, false, true}
-use mathlib.Core.List.{List, [], ◌++◌, ◌∷◌}
+use Rattle.std.proofs.Common.{Bool, ◌&&◌, ◌||◌, cond, false, true, List, [], ◌++◌, ◌∷◌, ◌∙◌, ◌≡◌, ap, refl, subst, sym, ◌*◌, ◌+◌, ◌-◌, ◌<◌}
+use Rattle.std.proofs.Common.{◌^◌, ◌≤◌, min, suc, ℕ, arith, eqb, leb, ltb, length}
 use mathlib.Core.Option.{Option, none, some}
-use mathlib.Core.Path.{◌∙◌, ◌≡◌, ap, refl, subst, sym}
-use Prim.Native.Nat.{◌*◌, ◌+◌, ◌-◌, ◌<◌, ◌^◌, ◌≤◌, min, suc, ℕ}
-use native.Mathlib.Omega.{arith}
-use lib.Dec.{eqb, leb, ltb}
-use lib.ListN.{length}
 use Rattle.agreement.specs.Common.{Helper, Helper.for_access, Helper.for_halfword, most_steps}
 use Rattle.agreement.specs.Riscv.Run.{Feed, GuestState, Left, Read, Registers, Stop.called, Stop.plain, read_turn, reading, turn}
 use Rattle.agreement.specs.Translation.Emit.{add_count, closing, opening, passes}

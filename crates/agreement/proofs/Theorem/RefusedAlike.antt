@@ -1,12 +1,6 @@
 -- The table of replies and the manual's own reading of it refuse the same turns; bounds of a walk.
-use mathlib.Core.Bool.{Bool, cond, false, true}
-use mathlib.Core.List.{List, [], ◌∷◌}
-use mathlib.Core.Path.{◌∙◌, ◌≡◌, refl, subst, sym}
-use Prim.Native.Nat.{◌%◌, ◌<◌, ◌^◌, ◌≤◌, suc, zero, ℕ}
-use native.Mathlib.Omega.{arith}
-use lib.Bits.{bit_and}
-use lib.Dec.{eqb, ltb}
-use lib.ListN.{length}
+use Rattle.std.proofs.Common.{Bool, cond, false, true, List, [], ◌∷◌, ◌∙◌, ◌≡◌, refl, subst, sym, ◌%◌, ◌<◌, ◌^◌, ◌≤◌, suc, zero, ℕ, arith}
+use Rattle.std.proofs.Common.{bit_and, eqb, ltb, length}
 use Rattle.agreement.specs.Common.{Helper.for_halfword, greatest}
 use Rattle.agreement.specs.Riscv.Fields.{plus}
 use Rattle.agreement.specs.Riscv.Instruction.{Instruction}

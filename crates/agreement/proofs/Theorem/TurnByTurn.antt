@@ -1,9 +1,6 @@
 -- One turn, refused or entered, leads where the manual's run goes.
-use mathlib.Core.Bool.{true}
-use mathlib.Core.List.{List, ◌∷◌}
+use Rattle.std.proofs.Common.{true, List, ◌∷◌, ◌≡◌, refl, ◌*◌, ◌<◌, ◌^◌, ℕ}
 use mathlib.Core.Option.{none}
-use mathlib.Core.Path.{◌≡◌, refl}
-use Prim.Native.Nat.{◌*◌, ◌<◌, ◌^◌, ℕ}
 use Rattle.agreement.specs.Riscv.Run.{GuestState, turn}
 use Rattle.agreement.specs.Translation.Replies.{Block, Refusal, Reply.block, Reply.refusal}
 use Rattle.agreement.specs.Statement.Agreement.{At, feed, feed_of, is_refused, left_by}

@@ -1,17 +1,10 @@
 -- Words that divide: what R10 holds behind them.
-use mathlib.Core.Bool.{Bool, cond, false, true}
-use mathlib.Core.List.{List, [], ◌++◌, ◌∷◌}
-use mathlib.Core.Logic.{◌≢◌}
-use mathlib.Core.Path.{◌∙◌, ◌≡◌, refl, sym}
-use Prim.Native.Nat.{◌%◌, ◌*◌, ◌+◌, ◌-◌, ◌/◌, ◌<◌, ◌^◌, ◌≤◌, suc, ℕ}
+use Rattle.std.proofs.Common.{Bool, cond, false, true, List, [], ◌++◌, ◌∷◌, ◌≢◌, ◌∙◌, ◌≡◌, refl, sym, ◌%◌, ◌*◌, ◌+◌, ◌-◌, ◌/◌, ◌<◌, ◌^◌}
+use Rattle.std.proofs.Common.{◌≤◌, suc, ℕ, mod-eq_of_lt, mod-lt, mul_comm, mul-one, mul-zero, arith, bit_and, bit_or, eqb, leb, ltb, ℤ}
+use Rattle.std.proofs.Common.{length, pow_pos}
 use native.Mathlib.Decide.{ℕ_discrete}
-use native.Mathlib.Nat.{add-mod_right, mod-eq_of_lt, mod-lt, mod-mod, mul_comm, mul-one, mul-zero, zero-mod}
-use native.Mathlib.Omega.{arith}
-use lib.Bits.{and_mask, bit_and, bit_or, or_add_and}
-use lib.Dec.{eqb, leb, ltb}
-use lib.IntN.{ℤ}
-use lib.ListN.{length}
-use lib.Pow.{pow_pos}
+use native.Mathlib.Nat.{add-mod_right, mod-mod, zero-mod}
+use lib.Bits.{and_mask, or_add_and}
 use Rattle.agreement.specs.Riscv.Instruction.{bits_of, word}
 use Rattle.agreement.specs.Translation.Emit.{first_quotient, first_remainder, quotient_s, quotient_u, remainder_s, remainder_u, sign_extend_pair}
 use Rattle.agreement.specs.X86.Execute.{exec, width_bits}

@@ -1,12 +1,6 @@
 -- Each word's code fits into a block: its operands are in range, it goes straight on, and it is tame.
-use mathlib.Core.Bool.{cond, not}
-use mathlib.Core.List.{List, [], ◌++◌, ◌∷◌}
-use mathlib.Core.Logic.{◌≢◌}
-use mathlib.Core.Path.{◌≡◌, refl}
-use Prim.Native.Nat.{◌*◌, ◌+◌, ◌-◌, ◌<◌, ◌^◌, ℕ}
+use Rattle.std.proofs.Common.{cond, not, List, [], ◌++◌, ◌∷◌, ◌≢◌, ◌≡◌, refl, ◌*◌, ◌+◌, ◌-◌, ◌<◌, ◌^◌, ℕ, arith, T, eqb, length}
 use native.Mathlib.Decide.{ℕ_discrete}
-use native.Mathlib.Omega.{arith}
-use lib.Dec.{T, eqb}
 use Rattle.agreement.specs.Riscv.Instruction.{Branch, Op, OpImm}
 use Rattle.agreement.specs.Riscv.Instruction.Op.{ADD, ADDW, AND, MUL, MULW, OR, SLL, SLLW, SLT, SLTU, SRA, SRAW, SRL, SRLW, SUB, SUBW}
 use Rattle.agreement.specs.Riscv.Instruction.Op.{XOR, DIV, DIVU, DIVUW, DIVW, MULH, MULHSU, MULHU, REM, REMU, REMUW, REMW}
@@ -17,7 +11,6 @@ use Rattle.agreement.specs.X86.Form.{Instr, Ok, R10, R11, RAX, RBX}
 use Rattle.agreement.specs.X86.Form.Alu.{add, and}
 use Rattle.agreement.specs.X86.Form.Instr.{alu_imm32, mov, mov_imm64, store}
 use Rattle.agreement.proofs.Host.Straight.{Fine, fine_append, AllOk, fine_ok, ok-append, run}
-use lib.ListN.{length}
 use Rattle.agreement.proofs.Laws.Tests.{eqb_no, eqb_yes}
 use Rattle.agreement.proofs.Words.Tame.{AllTame, Tame, free}
 use Rattle.agreement.proofs.Host.Paths.{Path, path_append, path_straight}

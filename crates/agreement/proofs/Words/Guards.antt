@@ -1,16 +1,9 @@
 -- A division behind a test of its divisor: the test, a jump over the division or not, and what RAX and RDX hold behind it.
-use mathlib.Core.Bool.{◌||◌, cond, false, true}
-use mathlib.Core.List.{List, [], ◌++◌, ◌∷◌}
-use mathlib.Core.Logic.{◌≢◌}
-use mathlib.Core.Path.{◌∙◌, ◌≡◌, ap, refl}
-use Prim.Native.Nat.{◌%◌, ◌*◌, ◌+◌, ◌-◌, ◌/◌, ◌<◌, ◌^◌, ◌≤◌, suc, ℕ}
+use Rattle.std.proofs.Common.{◌||◌, cond, false, true, List, [], ◌++◌, ◌∷◌, ◌≢◌, ◌∙◌, ◌≡◌, ap, refl, ◌%◌, ◌*◌, ◌+◌, ◌-◌, ◌/◌, ◌<◌, ◌^◌, ◌≤◌}
+use Rattle.std.proofs.Common.{suc, ℕ, div-le_self, mod-eq_of_lt, mod-lt, zero-mul, arith, eqb, leb, ltb, length, pow_pos}
 use native.Mathlib.Decide.{dec_lt, ℕ_discrete}
-use native.Mathlib.Nat.{div-le_self, mod-eq_of_lt, mod-lt, zero-mod, zero-mul}
-use native.Mathlib.Omega.{arith}
+use native.Mathlib.Nat.{zero-mod}
 use lib.Bits.{and_self, xor_self}
-use lib.Dec.{eqb, leb, ltb}
-use lib.ListN.{length}
-use lib.Pow.{pow_pos}
 use lib.Signed.{mag, quot_z, rem_z}
 use Rattle.agreement.specs.Riscv.Instruction.{bits_of, signed}
 use Rattle.agreement.specs.Translation.Emit.{division_s, division_u, skip_if}

@@ -1,12 +1,8 @@
 -- Constants into a register, branches, JAL and JALR: the slots, and RAX at the next pc.
-use mathlib.Core.Bool.{Bool, cond, false, not, true}
-use mathlib.Core.List.{List, [], ◌++◌, ◌∷◌}
-use mathlib.Core.Path.{◌∙◌, ◌≡◌, ap, refl}
-use Prim.Native.Nat.{◌%◌, ◌*◌, ◌+◌, ◌-◌, ◌/◌, ◌<◌, ◌^◌, ◌≤◌, ℕ}
-use native.Mathlib.Nat.{mod-eq_of_lt, mod-mod}
-use native.Mathlib.Omega.{arith}
-use lib.Bits.{and_high, bit_and}
-use lib.Dec.{eqb}
+use Rattle.std.proofs.Common.{Bool, cond, false, not, true, List, [], ◌++◌, ◌∷◌, ◌∙◌, ◌≡◌, ap, refl, ◌%◌, ◌*◌, ◌+◌, ◌-◌, ◌/◌, ◌<◌, ◌^◌, ◌≤◌}
+use Rattle.std.proofs.Common.{ℕ, mod-eq_of_lt, arith, bit_and, eqb}
+use native.Mathlib.Nat.{mod-mod}
+use lib.Bits.{and_high}
 use Rattle.agreement.specs.Riscv.Instruction.{Branch, branches}
 use Rattle.agreement.specs.Riscv.Instruction.Branch.{BEQ, BGE, BGEU, BLT, BLTU, BNE}
 use Rattle.agreement.specs.Riscv.Run.{Registers, write_x}

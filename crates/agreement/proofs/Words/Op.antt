@@ -1,13 +1,8 @@
 -- Words with two source registers: R10 gets the manual's value.
-use mathlib.Core.Bool.{Bool, false, not, true}
-use mathlib.Core.List.{List, [], ◌++◌, ◌∷◌}
-use mathlib.Core.Path.{◌∙◌, ◌≡◌, ap, refl, sym}
-use Prim.Native.Nat.{◌%◌, ◌*◌, ◌+◌, ◌/◌, ◌<◌, ◌^◌, ◌≤◌, ℕ}
-use native.Mathlib.Nat.{add-mod, mod-eq_of_lt, mod-mod}
-use native.Mathlib.Omega.{arith}
-use lib.Bits.{and_lt, and_mask, bit_and, or_lt, xor_lt}
-use lib.Dec.{T, ltb}
-use lib.ListN.{length}
+use Rattle.std.proofs.Common.{Bool, false, not, true, List, [], ◌++◌, ◌∷◌, ◌∙◌, ◌≡◌, ap, refl, sym, ◌%◌, ◌*◌, ◌+◌, ◌/◌, ◌<◌, ◌^◌, ◌≤◌, ℕ}
+use Rattle.std.proofs.Common.{mod-eq_of_lt, arith, bit_and, T, ltb, length}
+use native.Mathlib.Nat.{add-mod, mod-mod}
+use lib.Bits.{and_lt, and_mask, or_lt, xor_lt}
 use lib.Pow.{shr_le}
 use Rattle.agreement.specs.Riscv.Instruction.{Op, less, one_if, shift_right_arithmetic, value_op, word}
 use Rattle.agreement.specs.Riscv.Instruction.Op.{ADD, ADDW, AND, MUL, MULW, OR, SLL, SLLW, SLT, SLTU, SRA, SRAW, SRL, SRLW, SUB, SUBW}

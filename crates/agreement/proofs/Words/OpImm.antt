@@ -1,12 +1,7 @@
 -- Words with a register and an immediate: R10 gets the manual's value.
 -- i is the immediate's 32 bits in the host instruction, I the manual's 64 bits, of which i is the low half.
-use mathlib.Core.List.{[], ◌∷◌}
-use mathlib.Core.Path.{◌≡◌, refl}
-use Prim.Native.Nat.{◌%◌, ◌+◌, ◌<◌, ◌^◌, ◌≤◌, ℕ}
-use native.Mathlib.Nat.{mod-eq_of_lt}
-use native.Mathlib.Omega.{arith}
+use Rattle.std.proofs.Common.{[], ◌∷◌, ◌≡◌, refl, ◌%◌, ◌+◌, ◌<◌, ◌^◌, ◌≤◌, ℕ, mod-eq_of_lt, arith, ltb}
 use lib.Bits.{and_lt, or_lt, xor_lt}
-use lib.Dec.{ltb}
 use lib.Pow.{shr_le}
 use Rattle.agreement.specs.Riscv.Instruction.{OpImm, less, value_op_imm}
 use Rattle.agreement.specs.Riscv.Instruction.OpImm.{ADDI, ADDIW, ANDI, ORI, SLLI, SLLIW, SLTI, SLTIU, SRAI, SRAIW, SRLI, SRLIW, XORI}

@@ -1,10 +1,5 @@
 -- The walk's code against the manual's reading: one lemma per instruction, then the run of halfwords.
-use mathlib.Core.Bool.{Bool, false, true}
-use mathlib.Core.List.{List, [], ◌∷◌}
-use mathlib.Core.Path.{◌≡◌, ap, refl, subst, sym}
-use Prim.Native.Nat.{◌+◌, ◌<◌, ◌^◌, ◌≤◌, suc, zero, ℕ}
-use native.Mathlib.Omega.{arith}
-use lib.ListN.{length}
+use Rattle.std.proofs.Common.{Bool, false, true, List, [], ◌∷◌, ◌≡◌, ap, refl, subst, sym, ◌+◌, ◌<◌, ◌^◌, ◌≤◌, suc, zero, ℕ, arith, length}
 use Rattle.agreement.specs.Common.{Helper, Helper.for_access, Helper.for_halfword}
 use Rattle.agreement.specs.Riscv.Fields.{opcode, plus, rd, rs1, rs2, shamt5, shamt6}
 use Rattle.agreement.specs.Riscv.Instruction.{Branch, Instruction, Op, OpImm, value_op, value_op_imm}

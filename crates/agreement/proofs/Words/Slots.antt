@@ -1,11 +1,7 @@
 -- The simulation relation between words: RBX holds the registers' address, and each slot is its guest register.
-use mathlib.Core.Bool.{Bool, cond, false, true}
-use mathlib.Core.List.{List, [], ◌++◌, ◌∷◌}
-use mathlib.Core.Path.{◌∙◌, ◌≡◌, refl}
-use Prim.Native.Nat.{◌*◌, ◌+◌, ◌/◌, ◌<◌, ◌^◌, ◌≤◌, ℕ}
+use Rattle.std.proofs.Common.{Bool, cond, false, true, List, [], ◌++◌, ◌∷◌, ◌∙◌, ◌≡◌, refl, ◌*◌, ◌+◌, ◌/◌, ◌<◌, ◌^◌, ◌≤◌, ℕ, arith, eqb}
+use Rattle.std.proofs.Common.{leb}
 use native.Mathlib.Decide.{ℕ_discrete}
-use native.Mathlib.Omega.{arith}
-use lib.Dec.{eqb, leb}
 use Rattle.agreement.specs.Riscv.Run.{Registers, write_x}
 use Rattle.agreement.specs.Translation.Emit.{load_reg, store_reg}
 use Rattle.agreement.specs.X86.Execute.{exec}

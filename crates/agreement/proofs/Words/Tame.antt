@@ -1,13 +1,7 @@
 -- One syntactic test on a list of instructions gives its frame: the registers that a block keeps are kept, only slots
 -- are read and written, and so the code is not.
-use mathlib.Core.Bool.{Bool, ◌&&◌, cond, false, not, true}
-use mathlib.Core.List.{List, [], ◌++◌, ◌∷◌, append_assoc}
-use mathlib.Core.Logic.{◌≢◌}
-use mathlib.Core.Path.{◌∙◌, ◌≡◌, refl}
-use Prim.Native.Nat.{◌+◌, ◌/◌, ◌<◌, ◌^◌, ◌≤◌, ℕ}
-use native.Mathlib.Omega.{arith}
-use lib.Dec.{T, eqb}
-use lib.ListN.{length, length-append}
+use Rattle.std.proofs.Common.{Bool, ◌&&◌, cond, false, not, true, List, [], ◌++◌, ◌∷◌, append_assoc, ◌≢◌, ◌∙◌, ◌≡◌, refl, ◌+◌, ◌/◌, ◌<◌}
+use Rattle.std.proofs.Common.{◌^◌, ◌≤◌, ℕ, arith, T, eqb, length, length-append}
 use Rattle.agreement.specs.X86.Encode.{bytes, encode}
 use Rattle.agreement.specs.X86.Execute.{accesses, exec, result}
 use Rattle.agreement.specs.X86.Flags.{sext}

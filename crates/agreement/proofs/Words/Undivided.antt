@@ -1,11 +1,5 @@
 -- Only words that divide have jumps: where a turn meets none of them, its block has no jump.
-use mathlib.Core.Bool.{Bool, cond, false, true}
-use mathlib.Core.List.{List, [], ◌++◌, ◌∷◌}
-use mathlib.Core.Path.{◌≡◌, refl, subst, sym}
-use Prim.Native.Nat.{◌*◌, suc, zero, ℕ}
-use native.Mathlib.Omega.{arith}
-use lib.Bits.{bit_and}
-use lib.Dec.{eqb}
+use Rattle.std.proofs.Common.{Bool, cond, false, true, List, [], ◌++◌, ◌∷◌, ◌≡◌, refl, subst, sym, ◌*◌, suc, zero, ℕ, arith, bit_and, eqb}
 use Rattle.agreement.specs.Common.Helper.{for_halfword}
 use Rattle.agreement.specs.Laws.{Halfwords}
 use Rattle.agreement.specs.Riscv.Run.{is_long, taken, word_of}
