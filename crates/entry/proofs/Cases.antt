@@ -68,8 +68,8 @@ unchanged : insert full 8 5 (block 11 12) ≡ full
 unchanged = refl
 
 -- the last entry not in use is taken too
-last-free-at : insert_answer (entry 1 1 2 3 4 ∷ entry 0 0 0 0 0 ∷ []) 2 1 ≡ (0, 1 ∷ [])
-last-free-at = refl
+last_free_at : insert_answer (entry 1 1 2 3 4 ∷ entry 0 0 0 0 0 ∷ []) 2 1 ≡ (0, 1 ∷ [])
+last_free_at = refl
 
 -- a slice of no entries
 nothing_found : find [] 1 2 ≡ none
@@ -89,9 +89,9 @@ emptied_marks = refl
 last_of_two : last (inserted 1 2 (block 5 6) ∷ inserted 3 2 (block 7 8) ∷ inserted 1 2 (block 3 4) ∷ []) 1 2 ≡ some (block 5 6)
 last_of_two = refl
 
-last-behind_others : last (refused ∷ inserted 1 3 (block 7 8) ∷ inserted 2 2 (block 9 9) ∷ inserted 1 2 (block 3 4) ∷ []) 1 2
+last_behind_others : last (refused ∷ inserted 1 3 (block 7 8) ∷ inserted 2 2 (block 9 9) ∷ inserted 1 2 (block 3 4) ∷ []) 1 2
     ≡ some (block 3 4)
-last-behind_others = refl
+last_behind_others = refl
 
 last_emptied : last (inserted 1 3 (block 7 8) ∷ emptied ∷ inserted 1 2 (block 3 4) ∷ []) 1 2 ≡ none
 last_emptied = refl

@@ -23,8 +23,8 @@ not_any false h = refl
 
 module _ (es : List Entry) (satp pc : ℕ) where
   -- no entry is taken: then none holds the key, and none is free
-  none-taken : any (taken es satp pc) es ≡ false → (find es satp pc ≡ none) × (any free es ≡ false)
-  none-taken = at (any (holds satp pc) es) refl
+  none_taken : any (taken es satp pc) es ≡ false → (find es satp pc ≡ none) × (any free es ≡ false)
+  none_taken = at (any (holds satp pc) es) refl
     where
       at : (t : Bool) → any (holds satp pc) es ≡ t → any (cond t (holds satp pc) free) es ≡ false
           → (find es satp pc ≡ none) × (any free es ≡ false)
@@ -36,7 +36,7 @@ module _ (es : List Entry) (satp pc : ℕ) where
 
 pub refuses_when_full : RefusesWhenFull
 refuses_when_full es satp pc = record {
-  only = λ h. none-taken es satp pc (not_any _ (sym (refused_is es satp pc) ∙ eq-eqb (insert_answer es satp pc).0 8 h));
+  only = λ h. none_taken es satp pc (not_any _ (sym (refused_is es satp pc) ∙ eq-eqb (insert_answer es satp pc).0 8 h));
   always = λ h k. ap (λ (t : Bool). cond {A = ℕ × List ℕ} t (0, before (taken es satp pc) es ∷ []) (8, []))
       (full_taken es satp pc h k);
 }

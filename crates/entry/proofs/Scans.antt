@@ -18,8 +18,8 @@ below p (e ∷ es) = at (p e) (any p es) (below p es)
     at false true i = lt-ltb (suc (before p es)) (suc (length es)) (omega (arith, ltb-true (before p es) (length es) i))
     at false false i = le-ltb (suc (before p es)) (suc (length es)) (omega (arith, ltb-false (before p es) (length es) i))
 
-pub some-passes : (p : Entry → Bool) (es : List Entry) → before p es < length es → any p es ≡ true
-some-passes p es h = sym (below p es) ∙ lt-ltb (before p es) (length es) h
+pub some_passes : (p : Entry → Bool) (es : List Entry) → before p es < length es → any p es ≡ true
+some_passes p es h = sym (below p es) ∙ lt-ltb (before p es) (length es) h
 
 pub none_passes : (p : Entry → Bool) (es : List Entry) → length es ≤ before p es → any p es ≡ false
 none_passes p es h = sym (below p es) ∙ le-ltb (before p es) (length es) h

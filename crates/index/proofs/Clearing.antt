@@ -10,9 +10,9 @@ behind zero zs = empty zs
 behind (suc i) [] = []
 behind (suc i) (z ∷ zs) = z ∷ behind i zs
 
-behind-all : (zs : List Entry) → behind (length zs) zs ≡ zs
-behind-all [] = refl
-behind-all (z ∷ zs) = ap (λ (l : List Entry). z ∷ l) (behind-all zs)
+behind_all : (zs : List Entry) → behind (length zs) zs ≡ zs
+behind_all [] = refl
+behind_all (z ∷ zs) = ap (λ (l : List Entry). z ∷ l) (behind_all zs)
 
 behind-suc : (zs : List Entry) (i : ℕ) (d : Entry) → i < length zs → behind (suc i) (set zs i (freed (get_or zs i d))) ≡ behind i zs
 behind-suc [] i d h = absurd (not-suc-le-zero h)
@@ -36,4 +36,4 @@ one_cleared ys zs i d s h = record {
 pub all_cleared : (ys zs : List Entry) (i : ℕ) → Cleared ys zs i → length zs ≤ i → zs ≡ empty ys
 all_cleared ys zs i s h =
     let all : length zs ≡ i = omega (arith, s.same, s.le, h) in
-    sym (behind-all zs) ∙ ap (λ (k : ℕ). behind k zs) all ∙ s.entries
+    sym (behind_all zs) ∙ ap (λ (k : ℕ). behind k zs) all ∙ s.entries

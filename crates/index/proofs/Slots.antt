@@ -3,14 +3,14 @@ use Rattle.std.proofs.Common.{◌≡◌, sym, ap, ◌∙◌, Bool, false, cond, 
 use Rattle.entry.specs.Index.{holds, free, any, before, taken, renewed}
 use Rattle.entry.specs.declared.Entry.{Entry}
 use Rattle.entry.specs.declared.NativeBlock.{NativeBlock}
-use Rattle.entry.proofs.Scans.{some-passes, none_passes, set_over, over_none}
+use Rattle.entry.proofs.Scans.{some_passes, none_passes, set_over, over_none}
 use Rattle.index.specs.Answers.{Inserts}
 use Rattle.index.specs.declared.Inserting.TheVariants.{At, Full}
 
 module _ (es : List Entry) (satp pc : ℕ) where
   pub slot_key : (i : ℕ) → i ≡ before (holds satp pc) es → i < length es → i ≡ before (taken es satp pc) es
   slot_key i e h =
-      e ∙ sym (ap (λ (t : Bool). before (cond t (holds satp pc) free) es) (some-passes (holds satp pc) es (omega (arith, e, h))))
+      e ∙ sym (ap (λ (t : Bool). before (cond t (holds satp pc) free) es) (some_passes (holds satp pc) es (omega (arith, e, h))))
 
   pub slot_free : (i j : ℕ) → i ≡ before (holds satp pc) es → length es ≤ i → j ≡ before free es → j ≡ before (taken es satp pc) es
   slot_free i j e h f =
@@ -21,7 +21,7 @@ module _ (es : List Entry) (satp pc : ℕ) where
     put_in d r f h =
         let p : Entry → Bool = taken es satp pc in
         record {
-          answers = rw (some-passes p es (omega (arith, e, h))) (ap (λ (k : ℕ). (0, k ∷ [])) e);
+          answers = rw (some_passes p es (omega (arith, e, h))) (ap (λ (k : ℕ). (0, k ∷ [])) e);
           leaves =
               ap (set es i) f ∙ ap (λ (k : ℕ). set es k (renewed satp pc b (get_or es k d))) e ∙ set_over p (renewed satp pc b) d es;
         }

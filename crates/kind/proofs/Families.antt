@@ -32,8 +32,8 @@ by_test o n some t = record {
   some = λ e. some;
 }
 
-none-taken : (c f : ℕ) → entry 0 c f ≡ 0
-none-taken c f = go (eqb (0 / 2 ^ (8 * c + f) % 2) 1)
+none_taken : (c f : ℕ) → entry 0 c f ≡ 0
+none_taken c f = go (eqb (0 / 2 ^ (8 * c + f) % 2) 1)
   where
     go : (b : Bool) → cond b (kind_at 0 f) 0 ≡ 0
     go true = rw (zero-div (2 ^ (42 + f))) refl
@@ -42,7 +42,7 @@ none-taken c f = go (eqb (0 / 2 ^ (8 * c + f) % 2) 1)
 -- an opcode that `kind_of` has no arm for
 pub none : (o : ℕ) → ((f s : ℕ) → kind_of o f s (s / 2) ≡ other) → Family o 0
 none o h = record {
-  says = λ f s small. rw (h f s) (none-taken (class_of s) f);
+  says = λ f s small. rw (h f s) (none_taken (class_of s) f);
   some = λ e. absurd (e refl);
 }
 

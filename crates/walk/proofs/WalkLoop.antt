@@ -13,9 +13,9 @@ use Rattle.walk.specs.Fetch.{fetched}
 use Rattle.walk.specs.Walks.{Walks}
 use Rattle.walk.specs.declared.walk.Walked.{Walked}
 use Rattle.walk.specs.declared.fetch.Fetched.TheVariants.{Missing, Half, Word}
-use Rattle.walk.proofs.WalkStep.{at_none, at_missing, at_half, at-word, behind}
+use Rattle.walk.proofs.WalkStep.{at_none, at_missing, at_half, at_word, behind}
 use Rattle.walk.proofs.StraightLength.{straight_short}
-use Rattle.walk.proofs.WalkWritten.{Left, named, going, ending-word, stopping, stopping_here}
+use Rattle.walk.proofs.WalkWritten.{Left, named, going, ending_word, stopping, stopping_here}
 
 -- n words of the run hs are written; l₀ and a₀ were the output and the place before the first, l and a are those behind the last.
 -- Whatever completes the walk from there completes the whole.
@@ -70,7 +70,7 @@ module _ {steps start : ℕ} {hs l₀ : List ℕ} {a₀ : ℕ} {l : List ℕ} {p
           room = omega (arith, h, short, w.room, E.wrote.place, E.wrote.size);
           size = E.wrote.size ∙ w.size;
           rest = λ l' r q.
-              w.rest l' r (named (at-word (steps - n) pc (drop k hs) left f flow)
+              w.rest l' r (named (at_word (steps - n) pc (drop k hs) left f flow)
               (going E (named (behind (steps - n - 1) pc next k hs o ∙ ap (λ (j : ℕ). walk j next (drop (k + 2) hs)) fewer) q)));
         }
       where
@@ -79,14 +79,14 @@ module _ {steps start : ℕ} {hs l₀ : List ℕ} {a₀ : ℕ} {l : List ℕ} {p
 
     pub ended : {r : Walked} → e.flow ≡ Terminate → Left e.em (n + 1) jumped r → Walks l₀ a₀ 0 (walk steps start hs) m r
     ended {r = r} t q =
-        w.rest m r (named (at-word (steps - n) pc (drop k hs) left f (sym E.flows ∙ t)) (ending-word E q))
+        w.rest m r (named (at_word (steps - n) pc (drop k hs) left f (sym E.flows ∙ t)) (ending_word E q))
 
     pub stopped_behind : {r : Walked} → e.flow ≡ StopBehind → Left e.em (n + 1) (goes_on (wrapping_add pc 4)) r
         → Walks l₀ a₀ 0 (walk steps start hs) m r
     stopped_behind {r = r} t q =
-        w.rest m r (named (at-word (steps - n) pc (drop k hs) left f (sym E.flows ∙ t)) (ending-word E q))
+        w.rest m r (named (at_word (steps - n) pc (drop k hs) left f (sym E.flows ∙ t)) (ending_word E q))
 
     pub turned_down : {r : Walked} → e.flow ≡ NotEmitted → Left e.em n (end_at (kind i) pc i) r
         → Walks l₀ a₀ 0 (walk steps start hs) m r
     turned_down {r = r} t q =
-        w.rest m r (named (at-word (steps - n) pc (drop k hs) left f (sym E.flows ∙ t)) (stopping E q))
+        w.rest m r (named (at_word (steps - n) pc (drop k hs) left f (sym E.flows ∙ t)) (stopping E q))

@@ -59,10 +59,10 @@ at_missing n pc hs h e = some_left n pc hs h e
 pub at_half : (n pc : ℕ) (hs : List ℕ) {i : ℕ} → n ≢ 0 → Half i ≡ fetched hs → walk n pc hs ≡ helps for_halfword i pc
 at_half n pc hs h e = some_left n pc hs h e
 
-pub at-word : (n pc : ℕ) (hs : List ℕ) {w : ℕ} {f : X64EmitFlow} → n ≢ 0 → Word w ≡ fetched hs → (word_as (kind w) pc w).flow ≡ f
+pub at_word : (n pc : ℕ) (hs : List ℕ) {w : ℕ} {f : X64EmitFlow} → n ≢ 0 → Word w ≡ fetched hs → (word_as (kind w) pc w).flow ≡ f
     → walk n pc hs
     ≡ by_flow f (word_as (kind w) pc w).code (wrapping_add pc 4) (end_at (kind w) pc w) (walk (n - 1) (wrapping_add pc 4) (drop 2 hs))
-at-word n pc hs {w} h e t =
+at_word n pc hs {w} h e t =
     let p : Walked = walk (n - 1) (wrapping_add pc 4) (drop 2 hs) in
     some_left n pc hs h e ∙ walks_on (kind w) pc w p
     ∙ ap (λ (g : X64EmitFlow). by_flow g (word_as (kind w) pc w).code (wrapping_add pc 4) (end_at (kind w) pc w) p) t

@@ -36,9 +36,9 @@ abbrev pub Left : X64Emitter → ℕ → Translation.End → Walked → Type 0
 Left em n e r = (r.em ≡ em) × (r.emitted ≡ n) × (end_as r.end ≡ e)
 
 -- a word that ends the walk and counts
-pub ending-word : {l m : List ℕ} {a n : ℕ} {w : Word} {e : Emitted} {q : Translation.End} {r : Walked}
+pub ending_word : {l m : List ℕ} {a n : ℕ} {w : Word} {e : Emitted} {q : Translation.End} {r : Walked}
     → Emits l a w m e → Left e.em (n + 1) q r → Walks l a n (record { code = w.code; added = 1; end = q }) m r
-ending-word h k = record { ends = k.2; counts = k.1; wrote = rw k.0 h.wrote }
+ending_word h k = record { ends = k.2; counts = k.1; wrote = rw k.0 h.wrote }
 
 -- a word that is not emitted ends the walk
 pub stopping : {l m : List ℕ} {a n : ℕ} {w : Word} {e : Emitted} {q : Translation.End} {r : Walked}

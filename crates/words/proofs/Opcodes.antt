@@ -28,9 +28,9 @@ op_taken pc w o = rw (rd_is w, rs1_is w, rs2_is w) refl
 abbrev ImmIs : ℕ → ℕ → Instruction → Type 0
 ImmIs pc w k = op_imm_word k (decoded w) (Manual.imm_i w % 2 ^ 32) ≡ word_as k pc w
 
-imm-taken : (pc w : ℕ) → w < 2 ^ 32 → (o : OpImm) → ImmIs pc w (op_imm o)
+imm_taken : (pc w : ℕ) → w < 2 ^ 32 → (o : OpImm) → ImmIs pc w (op_imm o)
 unfolding Decode32.imm32
-imm-taken pc w h o =
+imm_taken pc w h o =
     let c : bits 31 20 w % 64 ≡ shamt6 w = mod-mod-pow (w / 2 ^ 20) 6 6 in
     let d : bits 31 20 w % 32 ≡ shamt5 w = mod-mod-pow (w / 2 ^ 20) 7 5 in
     rw (rd_is w, rs1_is w, imm_i_is w h, shamt6_is w, shamt5_is w, c, d) refl
@@ -77,11 +77,11 @@ at_branch pc w e = rw (kind_is w, e) (each_branch (BranchIs pc w) (branch_taken 
 at_op_imm : (pc w : ℕ) → w < 2 ^ 32 → opcode w ≡ 0x13 → WordIs pc w
 unfolding kind_of match leftover
 at_op_imm pc w h e =
-    rw (kind_is w, e, funct6_of w) (each_op_imm (ImmIs pc w) (imm-taken pc w h) (left pc w 0x13 e) (funct3 w) (funct6 w))
+    rw (kind_is w, e, funct6_of w) (each_op_imm (ImmIs pc w) (imm_taken pc w h) (left pc w 0x13 e) (funct3 w) (funct6 w))
 
 at_op_imm_32 : (pc w : ℕ) → w < 2 ^ 32 → opcode w ≡ 0x1B → WordIs pc w
 unfolding kind_of match leftover
-at_op_imm_32 pc w h e = rw (kind_is w, e) (each_op_imm_32 (ImmIs pc w) (imm-taken pc w h) (left pc w 0x1B e) (funct3 w) (funct7 w))
+at_op_imm_32 pc w h e = rw (kind_is w, e) (each_op_imm_32 (ImmIs pc w) (imm_taken pc w h) (left pc w 0x1B e) (funct3 w) (funct7 w))
 
 at_op : (pc w : ℕ) → opcode w ≡ 0x33 → WordIs pc w
 unfolding kind_of match leftover

@@ -23,9 +23,9 @@ unfoldable pub reads_a_turn : Unit {0}
 unfolding run_at refused first_refused is_not_taken is_long taken find_in find three_is top_is reading does words feed_of leaves
 reads_a_turn = tt
 
-pub first-refused : is_refused refused_turn m0 ≡ true
+pub first_refused_lem : is_refused refused_turn m0 ≡ true
 unfolding reads_a_turn
-first-refused = refl
+first_refused_lem = refl
 
 pub second_taken : is_refused helper_turn m0 ≡ false
 unfolding reads_a_turn

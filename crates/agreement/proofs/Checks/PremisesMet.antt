@@ -12,7 +12,7 @@ use Rattle.agreement.specs.X86.State.{State}
 use Rattle.agreement.proofs.Checks.Cases.{words}
 use Rattle.agreement.proofs.Checks.Example.{first_pc, five_turns, halfword_turn, helper_run, helper_turn, leaves, odd_turn, plain_run}
 use Rattle.agreement.proofs.Checks.Example.{plain_turn, range, refused_turn, three_turns, turn_of, zeros}
-use Rattle.agreement.proofs.Checks.ExampleStates.{after_three, fifth_refused, first-refused, fourth_calls, fourth_taken, m0, m2, m3}
+use Rattle.agreement.proofs.Checks.ExampleStates.{after_three, fifth_refused, first_refused_lem, fourth_calls, fourth_taken, m0, m2, m3}
 use Rattle.agreement.proofs.Checks.ExampleStates.{second_calls, second_taken, third_plain, third_taken}
 use Rattle.agreement.proofs.Host.Memory.{read-write, write_out}
 use Rattle.agreement.proofs.Laws.Length.{lengths}
@@ -103,9 +103,9 @@ turn_of_meets sp g hs r v rax rdx pc s un lr la ld = record {
       };
 }
 
-refused-meets : (pc : ℕ) → MeetsAt refused_turn pc
+refused_meets : (pc : ℕ) → MeetsAt refused_turn pc
 unfolding translate run_at
-refused-meets pc = record {
+refused_meets pc = record {
   typed = record { helper16 = omega arith; helper_mem = omega arith; others = λ k h. omega arith };
   unchanged = refl;
   enterable = λ b rb e. absurd (let z : ◌≡◌ {A = ℕ} 0 1 = cc in omega arith);
@@ -146,7 +146,7 @@ after_helper_met u ts k = met_plain (m2 u) plain_turn ts at_pc (third_taken u) (
 -- the first two turns of both lists
 met_from : (ts : List Turn) → ((u : State) → Met (m2 u) ts) → Met m0 (refused_turn ∷ helper_turn ∷ ts)
 met_from ts k =
-    met_refused m0 refused_turn (helper_turn ∷ ts) (refused-meets first_pc) first-refused
+    met_refused m0 refused_turn (helper_turn ∷ ts) (refused_meets first_pc) first_refused_lem
     (met_helped m0 helper_turn ts for_access 0x0000B083 helper_meets second_taken second_calls k)
 
 three_met : Met m0 three_turns

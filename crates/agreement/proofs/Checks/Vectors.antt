@@ -283,9 +283,9 @@ bits =
     ∷ five 0x80000000 (2 ^ 64 - 2048) (2 ^ 64 - 2048) (2 ^ 64 - 4096) (2 ^ 64 - 2147483648) (2 ^ 64 - 1048576)
     ∷ five 0xFFFFFFFF (2 ^ 64 - 1) (2 ^ 64 - 1) (2 ^ 64 - 2) (2 ^ 64 - 4096) (2 ^ 64 - 2) ∷ []
 
-each_word-passes : pass each_word ≡ true
+each_word_passes : pass each_word ≡ true
 unfolding immediates translations tests each_word
-each_word-passes = refl
+each_word_passes = refl
 
 runs_pass : pass runs ≡ true
 unfolding immediates translations tests runs

@@ -8,13 +8,13 @@ use Rattle.agreement.specs.X86.Memory.{read}
 use Rattle.agreement.specs.X86.State.{State}
 use Rattle.agreement.proofs.Checks.Example.{first_pc, five_turns, halfword_turn, helper_turn, odd_turn, plain_turn, refused_turn}
 use Rattle.agreement.proofs.Checks.Example.{three_turns, zeros}
-use Rattle.agreement.proofs.Checks.ExampleStates.{AfterThree, Five, after_five, after_three, fifth_refused, first-refused}
+use Rattle.agreement.proofs.Checks.ExampleStates.{AfterThree, Five, after_five, after_three, fifth_refused, first_refused_lem}
 use Rattle.agreement.proofs.Checks.ExampleStates.{fourth_calls, fourth_taken, m0, m2, m3, second_calls, second_taken, third_plain}
 use Rattle.agreement.proofs.Checks.ExampleStates.{third_taken}
 use Rattle.agreement.proofs.Checks.PremisesMet.{five, three}
 use Rattle.agreement.proofs.Checks.WitnessEntries.{HalfwordSays, HelperSays, PlainSays, halfword_says, helper_says, plain_says}
 use Rattle.agreement.proofs.Theorem.Consequences.{WentHelped, WentPlainly, after_helper, refused_x0}
-use Rattle.agreement.proofs.Theorem.AlongTheRun.{Ends, ends_helped, ends_here, ends_plain, ends-refused}
+use Rattle.agreement.proofs.Theorem.AlongTheRun.{Ends, ends_helped, ends_here, ends_plain, ends_refused}
 
 -- 1. The list of three: the second turn leads from m0 to m2, by a helper that was entered in `inside`, and the third on to m3
 
@@ -31,7 +31,7 @@ pub record Three (es : List Event) (m : GuestState) : Type 0 where
 
 three_ends : Ends m0 three_turns Three
 three_ends =
-    ends-refused m0 refused_turn (helper_turn ∷ plain_turn ∷ []) Three first-refused (λ e0 a0.
+    ends_refused m0 refused_turn (helper_turn ∷ plain_turn ∷ []) Three first_refused_lem (λ e0 a0.
     ends_helped m0 helper_turn (plain_turn ∷ []) (λ es. Three (e0 ∷ es)) for_access 0x0000B083 second_taken second_calls (λ e1 w1.
     let a : State = w1.call.inside in
     ends_plain (m2 a) plain_turn [] (λ es. Three (e0 ∷ e1 ∷ es)) (third_taken a) (third_plain a) (λ e2 w2.
@@ -81,7 +81,7 @@ pub record FiveTurns (es : List Event) (m : GuestState) : Type 0 where
 
 five_ends : Ends m0 five_turns FiveTurns
 five_ends =
-    ends-refused m0 refused_turn (helper_turn ∷ plain_turn ∷ halfword_turn ∷ odd_turn ∷ []) FiveTurns first-refused (λ e0 a0.
+    ends_refused m0 refused_turn (helper_turn ∷ plain_turn ∷ halfword_turn ∷ odd_turn ∷ []) FiveTurns first_refused_lem (λ e0 a0.
     ends_helped m0 helper_turn (plain_turn ∷ halfword_turn ∷ odd_turn ∷ []) (λ es. FiveTurns (e0 ∷ es))
     for_access 0x0000B083 second_taken second_calls (λ e1 w1.
     let a : State = w1.call.inside in
@@ -90,7 +90,7 @@ five_ends =
     ends_helped (m3 a) halfword_turn (odd_turn ∷ []) (λ es. FiveTurns (e0 ∷ e1 ∷ e2 ∷ es))
     for_halfword 0x4501 (fourth_taken (m3 a) p) (fourth_calls (m3 a) p) (λ e3 w3.
     let c : GuestState = after_helper halfword_turn w3.call.inside in
-    ends-refused c odd_turn [] (λ es. FiveTurns (e0 ∷ e1 ∷ e2 ∷ e3 ∷ es)) (fifth_refused w3.call.inside) (λ e4 a4.
+    ends_refused c odd_turn [] (λ es. FiveTurns (e0 ∷ e1 ∷ e2 ∷ e3 ∷ es)) (fifth_refused w3.call.inside) (λ e4 a4.
     ends_here c (λ es. FiveTurns (e0 ∷ e1 ∷ e2 ∷ e3 ∷ e4 ∷ es)) (says (e0 ∷ e1 ∷ e2 ∷ e3 ∷ e4 ∷ []) a e3 e4 w3 a4))))))
   where
     says : (es : List Event) (a : State) (e3 e4 : Event) (w : WentHelped (m3 a) halfword_turn e3)

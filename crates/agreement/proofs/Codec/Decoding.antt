@@ -198,15 +198,15 @@ at_set NE rest = refl
 at_set L rest = refl
 at_set GE rest = refl
 
-at-jump : (c : Cc) (d : ℕ) (rest : List ℕ)
+at_jump : (c : Cc) (d : ℕ) (rest : List ℕ)
     → decode ((112 + cc_number c) ∷ d ∷ rest) ≡ imm 1 (d ∷ rest) (λ v r. only (ltb v 128) (some (jcc c v, r)))
 unfolding decode opcode1 cc_of pick only
-at-jump B d rest = refl
-at-jump AE d rest = refl
-at-jump E d rest = refl
-at-jump NE d rest = refl
-at-jump L d rest = refl
-at-jump GE d rest = refl
+at_jump B d rest = refl
+at_jump AE d rest = refl
+at_jump E d rest = refl
+at_jump NE d rest = refl
+at_jump L d rest = refl
+at_jump GE d rest = refl
 
 forward : (d : ℕ) (x : Answer) → d < 128 → only (ltb d 128) x ≡ x
 unfolding only
@@ -282,6 +282,6 @@ round (mul_div w op r) rest h =
     rw append_assoc (rex-any w 0 r _ _ (omega arith) h refl
     ∙ modrm-digit (mul_div_digit op) r rest _ (mul_div_digit-lt op) h ∙ muldiv_of op _ ∙ rw width_wide)
 round (cqo w) rest h = rw append_assoc (rex-any w 0 0 _ _ (omega arith) (omega arith) refl ∙ rw width_wide)
-round (jcc c d) rest h = at-jump c d rest ∙ one_byte d rest _ ∙ forward d _ h
+round (jcc c d) rest h = at_jump c d rest ∙ one_byte d rest _ ∙ forward d _ h
 round call_rax rest h = at_call rest
 round ret rest h = at_ret rest

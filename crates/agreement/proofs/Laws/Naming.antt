@@ -63,12 +63,12 @@ unfoldable covered : List Row → Bool
 covered [] = true
 covered (r ∷ rs) = elim (member r.code opcodes) [ true ↦ covered rs | false ↦ false ]
 
-false-true : false ≡ true → ⊥
-false-true e = let z : ◌≡◌ {A = ℕ} 0 1 = cc in omega arith
+false_true : false ≡ true → ⊥
+false_true e = let z : ◌≡◌ {A = ℕ} 0 1 = cc in omega arith
 
 misses_member : (o x : ℕ) (ys : List ℕ) → Misses o ys → member x ys ≡ true → eqb o x ≡ false
 unfolding Misses member
-misses_member o x [] m e = absurd (false-true e)
+misses_member o x [] m e = absurd (false_true e)
 misses_member o x (y ∷ ys) m e = go (eqb x y) refl (misses_member o x ys m.1) e
   where
     go : (t : Bool) → eqb x y ≡ t → (member x ys ≡ true → eqb o x ≡ false) → elim t [ true ↦ true | false ↦ member x ys ] ≡ true
@@ -84,7 +84,7 @@ missed o f s t w (r ∷ rs) c m = go (member r.code opcodes) refl c (λ c. misse
     go : (b : Bool) → member r.code opcodes ≡ b → elim b [ true ↦ covered rs | false ↦ false ] ≡ true
         → (covered rs ≡ true → find o f s t w rs ≡ other) → find o f s t w (r ∷ rs) ≡ other
     go true e c k = rw (misses_member o r.code opcodes m e) (k c)
-    go false e c k = absurd (false-true c)
+    go false e c k = absurd (false_true c)
 
 rows_covered : covered rows ≡ true
 unfolding covered member
@@ -192,10 +192,10 @@ none_chosen (r ∷ rs) = cond (chosen r.name) false (none_chosen rs)
 
 both : (a b : Bool) → cond a b false ≡ true → (a ≡ true) × (b ≡ true)
 both true b e = (refl, e)
-both false b e = absurd (false-true e)
+both false b e = absurd (false_true e)
 
 neither : (a b : Bool) → cond a false b ≡ true → (a ≡ false) × (b ≡ true)
-neither true b e = absurd (false-true e)
+neither true b e = absurd (false_true e)
 neither false b e = (refl, e)
 
 -- does the row fit

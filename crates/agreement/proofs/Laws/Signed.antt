@@ -266,8 +266,8 @@ unfolding remainder
 remainder_usual w a b n m = rw (eqb_no b 0 n, no_overflow w a b m)
 
 module _ (k : ℕ) where
-  not-zero : 2 ^ suc k - 1 ≢ 0
-  not-zero e = omega (arith, twice k, pow_pos k)
+  not_zero : 2 ^ suc k - 1 ≢ 0
+  not_zero e = omega (arith, twice k, pow_pos k)
 
   pub minus_one : signed (suc k) (2 ^ suc k - 1) ≡ negsuc 0
   minus_one =
@@ -294,7 +294,7 @@ module _ (k : ℕ) where
 
   pub quotient-minus : (a : ℕ) → a < 2 ^ suc k → quotient (suc k) a (2 ^ suc k - 1) ≡ (2 ^ suc k - a) % 2 ^ suc k
   unfolding quotient
-  quotient-minus a h = rw (eqb_no (2 ^ suc k - 1) 0 not-zero, overflow_is a, minus_one) (go (ℕ_discrete a (2 ^ k)))
+  quotient-minus a h = rw (eqb_no (2 ^ suc k - 1) 0 not_zero, overflow_is a, minus_one) (go (ℕ_discrete a (2 ^ k)))
     where
       go : Dec (a ≡ 2 ^ k)
           → cond (eqb a (half (suc k))) (half (suc k)) (bits_of (suc k) (quot_z (signed (suc k) a) (negsuc 0))) ≡ (2 ^ suc k - a) % 2 ^ suc k
@@ -305,7 +305,7 @@ module _ (k : ℕ) where
 
   pub remainder-minus : (a : ℕ) → remainder (suc k) a (2 ^ suc k - 1) ≡ 0
   unfolding remainder
-  remainder-minus a = rw (eqb_no (2 ^ suc k - 1) 0 not-zero, overflow_is a, minus_one) (go (eqb a (half (suc k))) (signed (suc k) a))
+  remainder-minus a = rw (eqb_no (2 ^ suc k - 1) 0 not_zero, overflow_is a, minus_one) (go (eqb a (half (suc k))) (signed (suc k) a))
     where
       go : (t : Bool) (z : ℤ) → cond t 0 (bits_of (suc k) (rem_z z (negsuc 0))) ≡ 0
       go true z = refl

@@ -9,7 +9,7 @@ use Rattle.agreement.specs.Statement.Machine.History.{end, then}
 use Rattle.agreement.specs.Statement.Premises.{Enterable, Premises, Typed, Unchanged}
 use Rattle.agreement.specs.X86.State.{State}
 use Rattle.agreement.proofs.Theorem.Determined.{turned_once}
-use Rattle.agreement.proofs.Theorem.Consequences.{WentHelped, WentPlainly, after_helper_lem, after_plain_lem, after-refused}
+use Rattle.agreement.proofs.Theorem.Consequences.{WentHelped, WentPlainly, after_helper_lem, after_plain_lem, after_refused}
 use Rattle.agreement.proofs.Theorem.Consequences.{after_helper, after_plain, read_as}
 use Rattle.agreement.proofs.Theorem.TurnByTurn.{Led, SlotsAre, led}
 
@@ -56,7 +56,7 @@ met (t ∷ ts) m rb low sl z h = (a.typed, a.unchanged, enter, λ e pc' rb' k. o
 -- turn by turn: a refused one, one without a helper, one with a helper, whatever state that is entered in
 pub met_refused : (m : GuestState) (t : Turn) (ts : List Turn) → MeetsAt t m.pc → is_refused t m ≡ true → Met m ts → Met m (t ∷ ts)
 unfolding Met
-met_refused m t ts a f k = (a, λ e pc' rb rb' h w. rw (after-refused m t e f w) k)
+met_refused m t ts a f k = (a, λ e pc' rb rb' h w. rw (after_refused m t e f w) k)
 
 pub met_plain : (m : GuestState) (t : Turn) (ts : List Turn) → MeetsAt t m.pc → is_refused t m ≡ false → (read_as t m).stop ≡ plain
     → Met (after_plain t m) ts → Met m (t ∷ ts)
@@ -80,20 +80,20 @@ unfolding feeds manual
 ends_here m P p pc rb [] pc' rb' end a = p
 ends_here m P p pc rb (_ ∷ _) pc' rb' h a = elim h [ ]
 
-ends-after : (m n : GuestState) (t : Turn) (ts : List Turn) (P : List Event → GuestState → Type 0) (e : Event)
+ends_after : (m n : GuestState) (t : Turn) (ts : List Turn) (P : List Event → GuestState → Type 0) (e : Event)
     → turn (feed t e) m ≡ n → Ends n ts (λ es. P (e ∷ es))
     → (pc : ℕ) (rb : RegisterBytes) (es : List Event) (pc' : ℕ) (rb' : RegisterBytes)
     → History pc rb ts es pc' rb' → Along (turn (feed t e) m) ts es → P (e ∷ es) (manual (feeds (t ∷ ts) (e ∷ es)) m)
 unfolding feeds manual
-ends-after m n t ts P e z k pc rb es pc' rb' h a =
+ends_after m n t ts P e z k pc rb es pc' rb' h a =
     subst (λ (x : GuestState). P (e ∷ es) (manual (feeds ts es) x)) (sym z) (k pc rb es pc' rb' h (rw z at a))
 
-pub ends-refused : (m : GuestState) (t : Turn) (ts : List Turn) (P : List Event → GuestState → Type 0) → is_refused t m ≡ true
+pub ends_refused : (m : GuestState) (t : Turn) (ts : List Turn) (P : List Event → GuestState → Type 0) → is_refused t m ≡ true
     → ((e : Event) → At m t e → Ends m ts (λ es. P (e ∷ es))) → Ends m (t ∷ ts) P
 unfolding Along
-ends-refused m t ts P f k pc rb [] pc' rb' h a = elim h [ ]
-ends-refused m t ts P f k pc rb (e ∷ es) pc' rb' (then h hs) a =
-    ends-after m m t ts P e (after-refused m t e f a.0) (k e a.0) _ _ es _ _ hs a.1
+ends_refused m t ts P f k pc rb [] pc' rb' h a = elim h [ ]
+ends_refused m t ts P f k pc rb (e ∷ es) pc' rb' (then h hs) a =
+    ends_after m m t ts P e (after_refused m t e f a.0) (k e a.0) _ _ es _ _ hs a.1
 
 pub ends_plain : (m : GuestState) (t : Turn) (ts : List Turn) (P : List Event → GuestState → Type 0)
     → is_refused t m ≡ false → (read_as t m).stop ≡ plain
@@ -102,7 +102,7 @@ unfolding Along
 ends_plain m t ts P f st k pc rb [] pc' rb' h a = elim h [ ]
 ends_plain m t ts P f st k pc rb (e ∷ es) pc' rb' (then h hs) a =
     let w = after_plain_lem m f st h a.0 in
-    ends-after m (after_plain t m) t ts P e w.turned (k e w) _ _ es _ _ hs a.1
+    ends_after m (after_plain t m) t ts P e w.turned (k e w) _ _ es _ _ hs a.1
 
 pub ends_helped : (m : GuestState) (t : Turn) (ts : List Turn) (P : List Event → GuestState → Type 0) (h : Helper) (i : ℕ)
     → is_refused t m ≡ false → (read_as t m).stop ≡ called h i
@@ -111,4 +111,4 @@ unfolding Along
 ends_helped m t ts P h i f st k pc rb [] pc' rb' g a = elim g [ ]
 ends_helped m t ts P h i f st k pc rb (e ∷ es) pc' rb' (then g hs) a =
     let w = after_helper_lem m h i f st g a.0 in
-    ends-after m (after_helper t w.call.inside) t ts P e w.turned (k e w) _ _ es _ _ hs a.1
+    ends_after m (after_helper t w.call.inside) t ts P e w.turned (k e w) _ _ es _ _ hs a.1

@@ -12,7 +12,7 @@ use Rattle.agreement.specs.Statement.Machine.Went.{helped, plainly}
 use Rattle.agreement.specs.X86.Form.{RAX}
 use Rattle.agreement.specs.X86.Memory.{read}
 use Rattle.agreement.specs.X86.State.{State}
-use Rattle.agreement.proofs.Theorem.ManualRun.{turn_called, turn_plain, turn-refused}
+use Rattle.agreement.proofs.Theorem.ManualRun.{turn_called, turn_plain, turn_refused}
 
 true_not_false : true ≡ false → ⊥
 true_not_false e = let z : ◌≡◌ {A = ℕ} 0 1 = cc in omega arith
@@ -33,10 +33,10 @@ unfolding Entered
 helped_of t n v q c h = h
 
 -- a refused turn changes nothing
-pub after-refused : (m : GuestState) (t : Turn) (e : Event) → is_refused t m ≡ true → At m t e → turn (feed t e) m ≡ m
+pub after_refused : (m : GuestState) (t : Turn) (e : Event) → is_refused t m ≡ true → At m t e → turn (feed t e) m ≡ m
 unfolding At feed
-after-refused m t (rejected pc r) f a = turn-refused (feed_of t none) m (unfold feed_of in f)
-after-refused m t (visited pc n v) f a = absurd (true_not_false (sym f ∙ a.0.accepted))
+after_refused m t (rejected pc r) f a = turn_refused (feed_of t none) m (unfold feed_of in f)
+after_refused m t (visited pc n v) f a = absurd (true_not_false (sym f ∙ a.0.accepted))
 
 pub refused_x0 : (m : GuestState) (t : Turn) (e : Event) → is_refused t m ≡ true → At m t e → m.registers 0 ≡ 0
 unfolding At

@@ -79,6 +79,6 @@ pub turn_called : (f : Feed) (m : GuestState) (h : Helper) (i : ℕ) (l : Left) 
 unfolding turn settle resume
 turn_called f m h i l e p q = rw (e, turn) (rw p (rw q))
 
-pub turn-refused : (f : Feed) (m : GuestState) → refused f.limit m.pc (run_of f m) f.room ≡ true → turn f m ≡ m
+pub turn_refused : (f : Feed) (m : GuestState) → refused f.limit m.pc (run_of f m) f.room ≡ true → turn f m ≡ m
 unfolding turn
-turn-refused f m e = rw (e, turn)
+turn_refused f m e = rw (e, turn)

@@ -29,7 +29,7 @@ use Rattle.agreement.proofs.Host.Straight.{AllOk, all_append, ok-append, step_un
 use Rattle.agreement.proofs.Laws.Tests.{leb_yes}
 use Rattle.agreement.proofs.Theorem.MemoryAtEntry.{laid, overlay_in, overlay_out, slot_shift, small_bytes}
 use Rattle.agreement.proofs.Theorem.ManualRun.{Stays, stays, turn_called, turn_plain}
-use Rattle.agreement.proofs.Theorem.RefusedAlike.{Bounds, EndOk, made_halfwords, walk-ok}
+use Rattle.agreement.proofs.Theorem.RefusedAlike.{Bounds, EndOk, made_halfwords, walk_ok}
 use Rattle.agreement.proofs.Words.Simulation.{Agree, agree}
 use Rattle.agreement.proofs.Words.Slots.{Slots}
 use Rattle.agreement.proofs.Words.Undivided.{undivided_jumpless}
@@ -225,7 +225,7 @@ module _ (t : Turn) (m : GuestState) (rb : RegisterBytes) (ty : Typed t) (un : U
   halfwords = made_halfwords t m.pc un
 
   bounds : Bounds limit p
-  bounds = walk-ok limit m.pc t.made low halfwords
+  bounds = walk_ok limit m.pc t.made low halfwords
 
   module _ (re : reply t m.pc ≡ block b) (rf : is_refused t m ≡ false) (en : Enterable t b rb) where
     ly : Layout t (length code)

@@ -106,31 +106,31 @@ pub record Bounds (n : ℕ) (p : Walked) : Type 0 where
   pub end_ok : EndOk p.end
   pub few : p.added ≤ n
 
-emit-ok : (i : Instruction) (n pc w : ℕ) (p : Walked) → pc < 2 ^ 64 → w < 2 ^ 32 → Bounds n p → Bounds (suc n) (emit i pc w p)
+emit_ok : (i : Instruction) (n pc w : ℕ) (p : Walked) → pc < 2 ^ 64 → w < 2 ^ 32 → Bounds n p → Bounds (suc n) (emit i pc w p)
 unfolding emit EndOk
-emit-ok (op o) n pc w p h l s = record { end_ok = s.end_ok; few = omega (arith, s.few) }
-emit-ok (op_imm o) n pc w p h l s = record { end_ok = s.end_ok; few = omega (arith, s.few) }
-emit-ok LUI n pc w p h l s = record { end_ok = s.end_ok; few = omega (arith, s.few) }
-emit-ok AUIPC n pc w p h l s = record { end_ok = s.end_ok; few = omega (arith, s.few) }
-emit-ok FENCE n pc w p h l s = record { end_ok = s.end_ok; few = omega (arith, s.few) }
-emit-ok FENCE_I n pc w p h l s = omega arith
-emit-ok (branch c) n pc w p h l s = omega arith
-emit-ok JAL n pc w p h l s = omega arith
-emit-ok JALR n pc w p h l s = omega arith
-emit-ok (access a) n pc w p h l s = omega arith
-emit-ok (unmodelled o) n pc w p h l s = omega arith
-emit-ok other n pc w p h l s = omega arith
+emit_ok (op o) n pc w p h l s = record { end_ok = s.end_ok; few = omega (arith, s.few) }
+emit_ok (op_imm o) n pc w p h l s = record { end_ok = s.end_ok; few = omega (arith, s.few) }
+emit_ok LUI n pc w p h l s = record { end_ok = s.end_ok; few = omega (arith, s.few) }
+emit_ok AUIPC n pc w p h l s = record { end_ok = s.end_ok; few = omega (arith, s.few) }
+emit_ok FENCE n pc w p h l s = record { end_ok = s.end_ok; few = omega (arith, s.few) }
+emit_ok FENCE_I n pc w p h l s = omega arith
+emit_ok (branch c) n pc w p h l s = omega arith
+emit_ok JAL n pc w p h l s = omega arith
+emit_ok JALR n pc w p h l s = omega arith
+emit_ok (access a) n pc w p h l s = omega arith
+emit_ok (unmodelled o) n pc w p h l s = omega arith
+emit_ok other n pc w p h l s = omega arith
 
-pub walk-ok : (n pc : ℕ) (hs : List ℕ) → pc < 2 ^ 64 → Halfwords hs → Bounds n (walk n pc hs)
+pub walk_ok : (n pc : ℕ) (hs : List ℕ) → pc < 2 ^ 64 → Halfwords hs → Bounds n (walk n pc hs)
 unfolding walk Halfwords EndOk
-walk-ok zero pc hs h l = omega arith
-walk-ok (suc n) pc [] h l = omega arith
-walk-ok (suc n) pc (x ∷ []) h l = go (eqb (bit_and x 0x3) 0x3)
+walk_ok zero pc hs h l = omega arith
+walk_ok (suc n) pc [] h l = omega arith
+walk_ok (suc n) pc (x ∷ []) h l = go (eqb (bit_and x 0x3) 0x3)
   where
     go : (t : Bool) → Bounds (suc n) (elim t [ true ↦ stops_at pc | false ↦ helps for_halfword x pc ])
     go true = omega arith
     go false = omega arith
-walk-ok (suc n) pc (x ∷ y ∷ hs) h l = go (eqb (bit_and x 0x3) 0x3) (walk-ok n (plus pc 4) hs (omega arith) l.1.1)
+walk_ok (suc n) pc (x ∷ y ∷ hs) h l = go (eqb (bit_and x 0x3) 0x3) (walk_ok n (plus pc 4) hs (omega arith) l.1.1)
   where
     w : ℕ
     w = Decode32.word_of x y
@@ -140,5 +140,5 @@ walk-ok (suc n) pc (x ∷ y ∷ hs) h l = go (eqb (bit_and x 0x3) 0x3) (walk-ok 
 
     go : (t : Bool) → Bounds n (walk n (plus pc 4) hs)
         → Bounds (suc n) (elim t [ true ↦ emit (kind w) pc w (walk n (plus pc 4) hs) | false ↦ helps for_halfword x pc ])
-    go true s = emit-ok (kind w) n pc w (walk n (plus pc 4) hs) h w_lt s
+    go true s = emit_ok (kind w) n pc w (walk n (plus pc 4) hs) h w_lt s
     go false s = omega (arith, l.0)

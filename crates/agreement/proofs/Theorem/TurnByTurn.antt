@@ -9,7 +9,7 @@ use Rattle.agreement.specs.Statement.Machine.Event.{rejected, visited}
 use Rattle.agreement.specs.Statement.Machine.Turned.{skip, visit}
 use Rattle.agreement.specs.Statement.Premises.{Enterable, Typed, Unchanged}
 use Rattle.agreement.specs.X86.Memory.{read}
-use Rattle.agreement.proofs.Theorem.ManualRun.{turn-refused}
+use Rattle.agreement.proofs.Theorem.ManualRun.{turn_refused}
 use Rattle.agreement.proofs.Theorem.RefusedAlike.{Replied, Replied.came, Replied.out, made_halfwords, replied}
 use Rattle.agreement.proofs.Theorem.OneTurn.{Done, entered_done}
 
@@ -41,7 +41,7 @@ skipped t m rb r e f low sl z = record {
   turned = skip e;
   at = unfold At in record { refuses = f; at_pc = refl; x0 = z };
   m2 = m;
-  is = unfold feed feed_of left_by in turn-refused (feed_of t none) m (unfold feed_of in f);
+  is = unfold feed feed_of left_by in turn_refused (feed_of t none) m (unfold feed_of in f);
   pcs = refl;
   counts = λ es. unfold since in refl;
   slots = sl;

@@ -119,13 +119,13 @@ same7 f = record { a3 = refl; a4 = refl; a5 = refl; a12 = refl; a13 = refl; a14 
 set_pair : (f : ℕ → ℕ) (v w : ℕ) → Seven f (set (set f RAX v) RDX w)
 set_pair f v w = record { a3 = refl; a4 = refl; a5 = refl; a12 = refl; a13 = refl; a14 = refl; a15 = refl }
 
-result-free : (op : Alu) (f : ℕ → ℕ) (d v : ℕ) → T (free d) → Seven f (result op f d v)
-result-free add f d v t = set_free f d v t
-result-free or f d v t = set_free f d v t
-result-free and f d v t = set_free f d v t
-result-free sub f d v t = set_free f d v t
-result-free xor f d v t = set_free f d v t
-result-free cmp f d v t = same7 f
+result_free : (op : Alu) (f : ℕ → ℕ) (d v : ℕ) → T (free d) → Seven f (result op f d v)
+result_free add f d v t = set_free f d v t
+result_free or f d v t = set_free f d v t
+result_free and f d v t = set_free f d v t
+result_free sub f d v t = set_free f d v t
+result_free xor f d v t = set_free f d v t
+result_free cmp f d v t = same7 f
 
 module _ (undefined : State → Flags) (b : ℕ) (fits : b + 256 ≤ 2 ^ 64) where
   disp : (o : ℕ) → o ≤ 248 → at b (sext 32 64 o) ≡ b + o
@@ -205,9 +205,9 @@ module _ (undefined : State → Flags) (b : ℕ) (fits : b + 256 ≤ 2 ^ 64) whe
     outside = λ x f. let z : at (s.regs r) (sext 32 64 o) ≡ b + o = rw t.0 (rw e (disp o t.2)) in
         rw z (write_out 8 s.mem (b + o) (s.regs q) x (omega arith) (λ i l. omega (arith, f (o + i) (omega arith))));
   }
-  tame_one (alu w op d r) s e t = mk s _ (result-free op s.regs d _ t) refl
-  tame_one (alu_imm32 op d v) s e t = mk s _ (result-free op s.regs d _ t) refl
-  tame_one (alu_imm8 op d v) s e t = mk s _ (result-free op s.regs d _ t) refl
+  tame_one (alu w op d r) s e t = mk s _ (result_free op s.regs d _ t) refl
+  tame_one (alu_imm32 op d v) s e t = mk s _ (result_free op s.regs d _ t) refl
+  tame_one (alu_imm8 op d v) s e t = mk s _ (result_free op s.regs d _ t) refl
   tame_one (shift_cl w op d) s e t = mk s _ (set_free s.regs d _ t) refl
   tame_one (shift_imm8 w op d v) s e t = mk s _ (set_free s.regs d _ t) refl
   tame_one (imul w d r) s e t = mk s _ (set_free s.regs d _ t) refl
