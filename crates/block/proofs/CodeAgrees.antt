@@ -1,25 +1,24 @@
 -- Demand 3, of the code: a run of the code is a history of crate agreement, and the other way round.
-use Rattle.std.proofs.Common.{refl, sym, ◌∙◌, List, ℕ, length}
+use Rattle.std.proofs.Common.{refl, sym, ◌∙◌, List, ℕ, length, Ok, Err}
 use Rattle.agreement.specs.Translation.Replies.{Reply, numbered, output_after}
 use Rattle.agreement.specs.Translation.Replies.Reply.{block, refusal}
 use Rattle.agreement.specs.Translation.Replies.Refusal.{limit_zero, odd_start, missing, not_taken, output_short}
 use Rattle.agreement.specs.Statement.Machine.{RegisterBytes, Turn, Event, Turned, History, reply}
 use Rattle.agreement.proofs.Theorem.Agreement.{agreement}
 use Rattle.agreement.specs.Statement.Agreement.{Agreement, Agrees}
-use Rattle.block.specs.Answers.{Answers}
+use Rattle.block.specs.Answers.{Answer, Answers}
 use Rattle.block.specs.AgreementInCode.{Ran, Run, AgreementInCode}
-use Rattle.block.specs.declared.Answer.{Answer}
-use Rattle.block.specs.declared.Answer.TheVariants.{Block, LimitZero, OddStart, Missing, NotTaken, OutputShort}
+use Rattle.block.specs.declared.Refusal.TheVariants.{LimitZero, OddStart, Missing, NotTaken, OutputShort}
 use Rattle.block.proofs.CallerReadsReply.{reads}
 
 -- an answer for each reply
 abbrev answer_to : Reply → Answer
-answer_to (block b) = Block (length b.code) b.count
-answer_to (refusal limit_zero) = LimitZero
-answer_to (refusal (odd_start start)) = OddStart start
-answer_to (refusal (missing index)) = Missing index
-answer_to (refusal (not_taken word)) = NotTaken word
-answer_to (refusal output_short) = OutputShort
+answer_to (block b) = Ok (record { length = length b.code; count = b.count })
+answer_to (refusal limit_zero) = Err LimitZero
+answer_to (refusal (odd_start start)) = Err (OddStart start)
+answer_to (refusal (missing index)) = Err (Missing index)
+answer_to (refusal (not_taken word)) = Err (NotTaken word)
+answer_to (refusal output_short) = Err OutputShort
 
 answers : (p : Reply) (l : List ℕ) → Answers p l (output_after p l) (answer_to p)
 unfolding numbered

@@ -1,36 +1,52 @@
--- The test of the first word (crate agreement, Translation/Replies) by what stands at the front of the run.
-use Rattle.std.proofs.Common.{◌≡◌, refl, ap, ◌∙◌, Bool, true, false, cond, List, [], ◌∷◌, ℕ, bit_and, eqb}
+-- The test of the first word (crate agreement, Translation/Replies) by what stands at the front of the run, and by the word's kind.
+use Rattle.std.proofs.Common.{◌≡◌, refl, ap, ◌∙◌, Bool, true, false, cond, List, [], ◌∷◌, ℕ, bit_and, eqb, Result, Ok, Err, ◌⊎◌, inl, inr}
 use Rattle.agreement.specs.Translation.Decode32.{word_of}
 use Rattle.agreement.specs.Translation.Kind.{kind, kind_number}
-use Rattle.agreement.specs.Translation.Replies.{First, First.begins, First.lacks, first, first_word}
-use Rattle.walk.specs.Fetch.{fetched}
-use Rattle.block.specs.First.{by_number}
+use Rattle.agreement.specs.Translation.Replies.{First, First.begins, First.lacks, First.untaken, first, first_word}
+use Rattle.kind.specs.Numbered.{number_of}
+use Rattle.kind.specs.declared.WordKind.{WordKind}
+use Rattle.kind.specs.declared.WordKind.TheVariants.{NotTaken, Straight, Ending, MemoryHelper}
+use Rattle.walk.specs.Fetch.{missing, fetched}
 use Rattle.walk.specs.declared.fetch.Fetched.{Fetched}
-use Rattle.walk.specs.declared.fetch.Fetched.TheVariants.{Missing, Half, Word}
+use Rattle.walk.specs.declared.fetch.Fetched.TheVariants.{Half, Word}
+use Rattle.walk.specs.declared.fetch.Missing.{Missing}
 
-abbrev by_fetched_first : Fetched → First
-by_fetched_first (Missing i) = lacks i
-by_fetched_first (Half h) = begins
-by_fetched_first (Word w) = by_number (kind_number (kind w)) w
+abbrev pub by_fetched : Result Fetched Missing → First
+by_fetched (Err m) = lacks m.index
+by_fetched (Ok (Half h)) = begins
+by_fetched (Ok (Word w)) = first_word (kind w) w
 
-pub first_is : (hs : List ℕ) {f : Fetched} → f ≡ fetched hs → by_fetched_first f ≡ first hs
-unfolding first first_word
-first_is [] e = ap by_fetched_first e
-first_is (h ∷ []) e = ap by_fetched_first e ∙ go (eqb (bit_and h 0x3) 0x3)
+pub first_is : (hs : List ℕ) {f : Result Fetched Missing} → f ≡ fetched hs → by_fetched f ≡ first hs
+unfolding first
+first_is [] e = ap by_fetched e
+first_is (h ∷ []) e = ap by_fetched e ∙ go (eqb (bit_and h 0x3) 0x3)
   where
-    go : (t : Bool) → by_fetched_first (cond t (Missing 1) (Half h)) ≡ elim t [ true ↦ lacks 1 | false ↦ begins ]
+    go : (t : Bool) → by_fetched (cond t (missing 1) (Ok (Half h))) ≡ elim t [ true ↦ lacks 1 | false ↦ begins ]
     go true = refl
     go false = refl
-first_is (h ∷ u ∷ hs) e = ap by_fetched_first e ∙ go (eqb (bit_and h 0x3) 0x3)
+first_is (h ∷ u ∷ hs) e = ap by_fetched e ∙ go (eqb (bit_and h 0x3) 0x3)
   where
     w : ℕ
     w = word_of h u
 
-    go : (t : Bool) → by_fetched_first (cond t (Word w) (Half h)) ≡ elim t [ true ↦ first_word (kind w) w | false ↦ begins ]
+    go : (t : Bool) → by_fetched (cond t (Ok (Word w)) (Ok (Half h))) ≡ elim t [ true ↦ first_word (kind w) w | false ↦ begins ]
     go true = refl
     go false = refl
 
--- the word's kind has the number n
-pub word_first : (w : ℕ) {f : First} {n : ℕ}
-    → n ≡ kind_number (kind w) → by_number (kind_number (kind w)) w ≡ f → by_number n w ≡ f
-word_first w e h = ap (λ (m : ℕ). by_number m w) e ∙ h
+abbrev pub by_kind : WordKind → ℕ → First
+by_kind NotTaken w = untaken w
+by_kind Straight w = begins
+by_kind Ending w = begins
+by_kind MemoryHelper w = begins
+
+pub word_first : (k : WordKind) (w : ℕ) → number_of k ≡ kind_number (kind w) → by_kind k w ≡ first_word (kind w) w
+unfolding first_word
+word_first NotTaken w e = ap (λ (n : ℕ). cond (eqb n 0) (untaken w) begins) e
+word_first Straight w e = ap (λ (n : ℕ). cond (eqb n 0) (untaken w) begins) e
+word_first Ending w e = ap (λ (n : ℕ). cond (eqb n 0) (untaken w) begins) e
+word_first MemoryHelper w e = ap (λ (n : ℕ). cond (eqb n 0) (untaken w) begins) e
+
+pub begun : (k : WordKind) (w : ℕ) → (k ≡ Straight) ⊎ ((k ≡ Ending) ⊎ (k ≡ MemoryHelper)) → by_kind k w ≡ begins
+begun k w (inl e) = rw e refl
+begun k w (inr (inl e)) = rw e refl
+begun k w (inr (inr e)) = rw e refl

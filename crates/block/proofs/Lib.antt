@@ -1,4 +1,5 @@
-pub mod FirstWord
-pub mod ReplyLaws
 pub mod CallerReadsReply
 pub mod CodeAgrees
+pub mod Compiled
+pub mod FirstWord
+pub mod ReplyLaws

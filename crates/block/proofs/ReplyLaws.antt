@@ -1,6 +1,6 @@
 -- The replies of crate agreement (Translation/Replies), one law for each way through their tests, and the answers that give them.
 use Rattle.std.proofs.Common.{◌≡◌, refl, sym, ap, ◌∙◌, subst, Bool, true, false, ◌≢◌, List, ℕ, ◌%◌, ◌<◌, ◌≤◌, min, zero-add, arith, eq-eqb}
-use Rattle.std.proofs.Common.{ne_eqb, lt-ltb, le-ltb, eqb, length, length-take-le}
+use Rattle.std.proofs.Common.{ne_eqb, lt-ltb, le-ltb, eqb, length, length-take-le, Ok, Err}
 use Rattle.agreement.specs.Common.{greatest, most_steps}
 use Rattle.agreement.specs.Translation.Walk.{walk}
 use Rattle.agreement.specs.Translation.Replies.{Block, Reply, First, first, by_first, block_of, walked, translate, numbered, output_after}
@@ -9,10 +9,11 @@ use Rattle.agreement.specs.Translation.Replies.Refusal.{limit_zero, odd_start, o
 use Rattle.agreement.specs.Translation.Replies.First.{begins, lacks, untaken}
 use Rattle.agreement.proofs.Laws.Length.{block_length}
 use Rattle.emitter.proofs.WriteLaws.{parts}
-use Rattle.walk.specs.Walks.{Compiles}
-use Rattle.block.specs.Answers.{Answers, Fits}
-use Rattle.block.specs.declared.Answer.{Answer}
-use Rattle.walk.specs.declared.close.Compiled.{Compiled}
+use Rattle.block.specs.Answers.{Answer, Answers, Compiles, Fits}
+use Rattle.block.specs.First.{refused}
+use Rattle.block.specs.declared.Block as Rust
+use Rattle.block.specs.declared.Refusal.{Refusal}
+use Rattle.block.specs.declared.Refusal.TheVariants.{LimitZero, OddStart, Missing, NotTaken, OutputShort}
 
 -- 1. The reply, by the tests in their order
 
@@ -60,48 +61,54 @@ if_long room b e = rw (le-ltb room greatest e, by_first) refl
 named : {p q : Reply} {l l' : List ℕ} {r : Answer} → p ≡ q → Answers q l l' r → Answers p l l' r
 named {l = l} {l' = l'} {r = r} e h = subst (λ (x : Reply). Answers x l l' r) (sym e) h
 
-pub limit_zero_lem : {p : Reply} {l : List ℕ} → p ≡ refusal limit_zero → Answers p l l Answer.LimitZero
+pub limit_zero_lem : {p : Reply} {l : List ℕ} → p ≡ refusal limit_zero → Answers p l l (Err LimitZero)
 unfolding numbered output_after
 limit_zero_lem e = named e (record { answers = refl; leaves = refl })
 
-pub odd_start_lem : {p : Reply} {l : List ℕ} {start : ℕ} → p ≡ refusal (odd_start start) → Answers p l l (Answer.OddStart start)
+pub odd_start_lem : {p : Reply} {l : List ℕ} {start : ℕ} → p ≡ refusal (odd_start start) → Answers p l l (Err (OddStart start))
 unfolding numbered output_after
 odd_start_lem e = named e (record { answers = refl; leaves = refl })
 
-pub missing_halfword : {p : Reply} {l : List ℕ} (b : Block) (index : ℕ) → p ≡ by_first (lacks index) (length l) b
-    → Answers p l l (Answer.Missing index)
+-- the first word is not there, or not taken
+pub first_refused : {p : Reply} {l : List ℕ} (f : First) {r : Refusal} (b : Block) → Err r ≡ refused f → p ≡ by_first f (length l) b
+    → Answers p l l (Err r)
 unfolding by_first numbered output_after
-missing_halfword b index e = named e (record { answers = refl; leaves = refl })
+first_refused begins b e h = cc e
+first_refused (lacks i) {r = r} b e h =
+    let n : r ≡ Missing i = cc e in named h (rw n (record { answers = refl; leaves = refl }))
+first_refused (untaken w) {r = r} b e h =
+    let n : r ≡ NotTaken w = cc e in named h (rw n (record { answers = refl; leaves = refl }))
 
-pub not_taken : {p : Reply} {l : List ℕ} (b : Block) (word : ℕ) → p ≡ by_first (untaken word) (length l) b
-    → Answers p l l (Answer.NotTaken word)
-unfolding by_first numbered output_after
-not_taken b word e = named e (record { answers = refl; leaves = refl })
+-- it begins a block
+pub begun : (f : First) {u : Unit {0}} → Ok u ≡ refused f → f ≡ begins
+begun begins e = refl
+begun (lacks i) e = cc e
+begun (untaken w) e = cc e
 
 pub output_short_lem : {p : Reply} {l : List ℕ} (b : Block) → length l < greatest → p ≡ by_first begins (length l) b
-    → Answers p l l Answer.OutputShort
+    → Answers p l l (Err OutputShort)
 unfolding numbered output_after
 output_short_lem {l = l} b s e = named (e ∙ if_short (length l) b s) (record { answers = refl; leaves = refl })
 
 -- a block at the front of the output
-at_front : {l l' : List ℕ} {b : Block} {r : Compiled} → length b.code ≤ length l → Compiles b l l' r
-    → Answers (block b) l l' (Answer.Block r.em.at r.count)
+at_front : {l l' : List ℕ} {b : Block} {r : Rust.Block} → length b.code ≤ length l → Compiles b l l' r
+    → Answers (block b) l l' (Ok r)
 unfolding numbered output_after
 at_front {b = b} f h = record {
   answers = rw (h.wrote.place ∙ zero-add (length b.code), h.counts) refl;
   leaves = parts (record { fits = omega (arith, f) }) h.wrote ∙ rw zero-add refl;
 }
 
-fits : {l l' : List ℕ} {b : Block} {r : Compiled} → length b.code ≤ length l → Compiles b l l' r
-    → Fits (Answer.Block r.em.at r.count) l'
+fits : {l l' : List ℕ} {b : Block} {r : Rust.Block} → length b.code ≤ length l → Compiles b l l' r
+    → Fits (Ok r) l'
 fits {l' = l'} {r = r} f h =
-    let g : r.em.at ≤ length l' = omega (arith, f, h.wrote.place, h.wrote.size) in
-    (g, sym (length-take-le r.em.at l' g))
+    let g : r.length ≤ length l' = omega (arith, f, h.wrote.place, h.wrote.size) in
+    (g, sym (length-take-le r.length l' g))
 
-pub made : {p : Reply} {l l' : List ℕ} {r : Compiled} (start limit : ℕ) (hs : List ℕ) (h16 hm steps : ℕ)
+pub made : {p : Reply} {l l' : List ℕ} {r : Rust.Block} (start limit : ℕ) (hs : List ℕ) (h16 hm steps : ℕ)
     → greatest ≤ length l → p ≡ by_first begins (length l) (block_of h16 hm (walked start limit hs))
     → steps ≡ min limit most_steps → Compiles (block_of h16 hm (walk steps start hs)) l l' r
-    → Answers p l l' (Answer.Block r.em.at r.count) × Fits (Answer.Block r.em.at r.count) l'
+    → Answers p l l' (Ok r) × Fits (Ok r) l'
 made {l = l} {l' = l'} {r = r} start limit hs h16 hm steps s e n h =
     let b : Block = block_of h16 hm (walked start limit hs) in
     let k : Compiles b l l' r = rw n at h in

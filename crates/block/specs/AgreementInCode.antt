@@ -8,9 +8,8 @@ use Rattle.agreement.specs.Translation.Replies.{Block, Refusal, Reply.block, Rep
 use Rattle.agreement.specs.Statement.Machine.{RegisterBytes, Turn, Visit, Went, enter, Event, Event.rejected, Event.visited, bytes_after}
 use Rattle.agreement.specs.Statement.Premises.{Premises}
 use Rattle.agreement.specs.Statement.Agreement.{Agrees}
-use Rattle.block.specs.Answers.{Translates}
+use Rattle.block.specs.Answers.{Answer, Translates}
 use Rattle.block.specs.CallerReads.{read}
-use Rattle.block.specs.declared.Answer.{Answer}
 
 -- the turn's call at pc answers r and leaves the output after
 abbrev pub Calls : ℕ → Turn → List ℕ → Answer → Type 0

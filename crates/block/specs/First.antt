@@ -1,15 +1,10 @@
--- The first word: the code's cases as those of crate agreement (Translation/Replies).
-use Rattle.std.specs.Prelude.{cond, ℕ, eqb}
-use Rattle.agreement.specs.Translation.Replies.{First.begins, First.lacks, First.untaken}
-use Rattle.agreement.specs.Translation.Replies as Replies
-use Rattle.block.specs.declared.first.First.{First}
-use Rattle.block.specs.declared.first.First.TheVariants.{Begins, Lacks, Untaken}
+-- What crate agreement says of the first word (Translation/Replies), as the code answers it.
+use Rattle.std.specs.Prelude.{Result, Ok, Err}
+use Rattle.agreement.specs.Translation.Replies.{First, First.begins, First.lacks, First.untaken}
+use Rattle.block.specs.declared.Refusal.{Refusal}
+use Rattle.block.specs.declared.Refusal.TheVariants.{Missing, NotTaken}
 
-abbrev pub first_as : First → Replies.First
-first_as Begins = begins
-first_as (Lacks index) = lacks index
-first_as (Untaken word) = untaken word
-
--- a block begins with a word unless the number of its kind is 0: it is not taken
-abbrev pub by_number : ℕ → ℕ → Replies.First
-by_number n w = cond (eqb n 0) (untaken w) begins
+abbrev pub refused : First → Result (Unit {0}) Refusal
+refused begins = Ok tt
+refused (lacks index) = Err (Missing index)
+refused (untaken word) = Err (NotTaken word)

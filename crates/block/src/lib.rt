@@ -3,28 +3,42 @@
 
 mod first;
 
-ghost use Rattle.std.specs.Prelude.{◌≡◌, min, ◌≤◌};
+ghost use Rattle.std.specs.Prelude.{◌≤◌};
 ghost use Rattle.agreement.specs.Common.{greatest, most_steps};
 ghost use Rattle.agreement.specs.Translation.Walk.{walk};
 ghost use Rattle.agreement.specs.Translation.Replies.{block_of};
 ghost use Rattle.emitter.specs.Written.{Room};
-ghost use Rattle.block.specs.Answers.{Translates, Fits};
-ghost use Rattle.walk.specs.Walks.{Compiles};
+ghost use Rattle.block.specs.Answers.{Translates, Fits, Compiles};
 
-use crate::first::First;
 use emitter::X64Emitter;
-use walk::close;
-use walk::close::Compiled;
+pub use walk::close::Helpers;
+use walk::fetch::Missing;
 
-// Document 01, "Replies". `specs/Answers` gives each case its number and values.
+// A block at the front of the output. `specs/Answers` gives each answer its number and values (document 01, "Replies").
 #[derive(Clone, Copy)]
-pub enum Answer {
-    Block { length: usize, count: u32 },
+pub struct Block {
+    pub length: usize,
+    pub count: u32,
+}
+
+#[derive(Clone, Copy)]
+pub enum Refusal {
     LimitZero,
     OddStart(u64),
     Missing(u32),
     NotTaken(u32),
     OutputShort,
+}
+
+impl From<Missing> for Refusal {
+    ghost use Rattle.std.specs.Prelude.{◌≡◌};
+    ghost use Rattle.block.specs.declared.Refusal.TheVariants.{Missing as MissingHalfword};
+
+    ghost from_gives = { λ m r. r ≡ MissingHalfword m.index };
+
+    fn from(missing: Missing) -> Refusal {
+        Refusal::Missing(missing.index)
+    }
 }
 
 // `greatest` of the contracts: the least output that is accepted, and the greatest length of a block.
@@ -33,69 +47,49 @@ const GREATEST: usize = 4099;
 // `most_steps` of the contracts: the words of a block, whatever the limit.
 const MOST_STEPS: u32 = 64;
 
-fn steps(limit: u32) -> u32
-    ensures { (result ≡ min limit most_steps) × (result ≤ most_steps) }
-{
-    if limit < MOST_STEPS {
-        limit
-    } else {
-        MOST_STEPS
-    }
-}
-
 // The block at the front of the output.
 fn compile_native_block(
     start: u64,
     steps: u32,
     halfwords: &[u16],
-    helper16: u64,
-    helper_mem: u64,
+    helpers: Helpers,
     out: &mut [u8],
-) -> Compiled
+) -> Block
     requires { (steps ≤ most_steps) × Room out.old 0 greatest }
-    ensures { Compiles (block_of helper16 helper_mem (walk steps start halfwords.now))
+    ensures { Compiles (block_of helpers.helper16 helpers.helper_mem (walk steps start halfwords.now))
         out.old out.new result }
 {
-    let a = words::x64_emit_prologue(X64Emitter { at: 0 }, out);
-    let w = walk::walk::emit_words(a, out, halfwords, start, steps);
-    let b = w.em;
-    let end = w.end;
-    close::close(b, out, end, w.emitted, helper16, helper_mem)
+    let mut em = X64Emitter::new(out);
+    words::x64_emit_prologue(&mut em);
+    let walked = walk::walk::emit_words(&mut em, halfwords, start, steps);
+    let count = walk::close::close(&mut em, walked.end, walked.emitted, helpers);
+    Block {
+        length: em.at,
+        count,
+    }
 }
 
 pub fn translate(
     start: u64,
     limit: u32,
     halfwords: &[u16],
-    helper16: u64,
-    helper_mem: u64,
+    helpers: Helpers,
     out: &mut [u8],
-) -> Answer
-    ensures translates { Translates start limit halfwords.now helper16 helper_mem
+) -> Result<Block, Refusal>
+    ensures translates { Translates start limit halfwords.now helpers.helper16 helpers.helper_mem
         out.old out.new result }
     ensures fits { Fits result out.new }
 {
     if limit == 0 {
-        return Answer::LimitZero;
+        return Err(Refusal::LimitZero);
     }
     if start % 2 == 1 {
-        return Answer::OddStart(start);
+        return Err(Refusal::OddStart(start));
     }
-    let first = first::first_word(halfwords);
-    match first {
-        First::Lacks(index) => Answer::Missing(index),
-        First::Untaken(word) => Answer::NotTaken(word),
-        First::Begins => {
-            if out.len() < GREATEST {
-                return Answer::OutputShort;
-            }
-            let n = steps(limit);
-            let b = compile_native_block(start, n, halfwords, helper16, helper_mem, out);
-            let em = b.em;
-            Answer::Block {
-                length: em.at,
-                count: b.count,
-            }
-        }
+    first::first_word(halfwords)?;
+    if out.len() < GREATEST {
+        return Err(Refusal::OutputShort);
     }
+    let steps = limit.min(MOST_STEPS);
+    Ok(compile_native_block(start, steps, halfwords, helpers, out))
 }

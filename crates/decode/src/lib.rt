@@ -4,18 +4,21 @@
 #![tactic(auto)]
 
 pub mod isa;
+mod xreg;
 
 ghost use Rattle.std.specs.Prelude.{◌≡◌, ◌^◌, ◌<◌, ◌≤◌};
 ghost use Rattle.agreement.specs.Riscv.Immediates.{sign_extend, imm_i, imm_s, imm_b, imm_u, imm_j};
 ghost use Rattle.decode.specs.Decoded.{decoded};
 
+pub use xreg::XReg;
+
 #[derive(Clone, Copy)]
 pub struct Decoded32 {
     pub opcode: u8,
-    pub rd: u8,
+    pub rd: XReg,
     pub funct3: u8,
-    pub rs1: u8,
-    pub rs2: u8,
+    pub rs1: XReg,
+    pub rs2: XReg,
     pub funct7: u8,
     pub funct5: u8,
     pub imm12: u16,
@@ -79,10 +82,10 @@ pub fn decode32(instr: u32) -> Decoded32
 {
     Decoded32 {
         opcode: (instr % 128) as u8,
-        rd: ((instr >> 7) % 32) as u8,
+        rd: XReg::new(((instr >> 7) % 32) as u8),
         funct3: ((instr >> 12) % 8) as u8,
-        rs1: ((instr >> 15) % 32) as u8,
-        rs2: ((instr >> 20) % 32) as u8,
+        rs1: XReg::new(((instr >> 15) % 32) as u8),
+        rs2: XReg::new(((instr >> 20) % 32) as u8),
         funct7: ((instr >> 25) % 128) as u8,
         funct5: ((instr >> 27) % 32) as u8,
         imm12: ((instr >> 20) % 4096) as u16,

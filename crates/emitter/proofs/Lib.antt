@@ -1,3 +1,2 @@
-pub mod WriteLaws
 pub mod QuotientLaws
-pub mod Rex
+pub mod WriteLaws

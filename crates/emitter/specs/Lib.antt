@@ -1,4 +1,5 @@
-pub mod Written
-pub mod Quotient
+pub mod Args
 pub mod Forms
+pub mod Quotient
 pub mod Shapes
+pub mod Written

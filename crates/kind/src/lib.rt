@@ -5,43 +5,35 @@
 
 mod family;
 
-ghost use Rattle.std.specs.Prelude.{◌≡◌, ◌<◌};
+ghost use Rattle.std.specs.Prelude.{◌≡◌};
 ghost use Rattle.agreement.specs.Translation.Kind.{kind, kind_number};
 ghost use Rattle.kind.specs.Numbered.{number_of};
 
-// The block goes on behind a straight word; an ending word ends it; at a load or store the memory helper does.
-// `specs/Numbered` gives each its number.
+use family::Family;
+
+// The block goes on behind a straight word; an ending word ends it; at a load or store the memory helper does. Document 02 numbers them so
+// at Q-9.
 #[derive(Clone, Copy)]
 pub enum WordKind {
-    NotTaken,
-    Straight,
-    Ending,
-    MemoryHelper,
+    NotTaken = 0,
+    Straight = 1,
+    Ending = 2,
+    MemoryHelper = 3,
 }
 
-// The kind of a word that is taken.
-fn by_number(number: u64) -> WordKind
-    requires { (0 < number) × (number < 4) }
-    ensures { number_of result ≡ number }
-{
-    match number {
-        1 => WordKind::Straight,
-        2 => WordKind::Ending,
-        _ => WordKind::MemoryHelper,
-    }
-}
-
-// Words come in no order that a processor could learn, so no branch here depends on more than whether the word is taken.
+// Words come in no order that a processor could learn, so no branch here depends on more than whether the word is taken, but for that of
+// FENCE.I, which is rare.
 pub fn word_kind(instr: u32) -> WordKind
     ensures { number_of result ≡ kind_number (kind instr) }
 {
     let d = decode::decode32(instr);
-    let family = family::family(d.opcode);
+    let family = Family::of(d.opcode);
     let place = 8 * family::class(d.funct7) + d.funct3;
-    if (family >> place) % 2 == 1 {
-        let ends = (family >> (42 + d.funct3)) % 2;
-        by_number((family >> 40) % 4 + ends)
-    } else {
-        WordKind::NotTaken
+    if (family.taken >> place) % 2 != 1 {
+        return WordKind::NotTaken;
     }
+    if (family.ending >> d.funct3) % 2 == 1 {
+        return WordKind::Ending;
+    }
+    family.kind
 }

@@ -1,8 +1,7 @@
 -- What document 01's program writes ("Block bytes", last paragraph).
-use Rattle.std.specs.Prelude.{List, [], ◌∷◌, ℕ, ◌+◌, ◌*◌}
+use Rattle.std.specs.Prelude.{List, [], ◌∷◌, ℕ, ◌+◌, ◌*◌, Ok, Err}
 use Rattle.agreement.specs.Translation.Replies.{Reply, Reply.block, Reply.refusal, translate}
-use Rattle.block.specs.declared.Answer.{Answer}
-use Rattle.block.specs.declared.Answer.TheVariants.{Block, LimitZero, OddStart, Missing, NotTaken, OutputShort}
+use Rattle.block.specs.Answers.{Answer}
 
 -- the halfwords of a run of bytes, little-endian; a last odd byte is dropped
 abbrev pub halfwords_of : List ℕ → List ℕ
@@ -21,9 +20,5 @@ written code room = bytes_of (translate 0x80000000 64 (halfwords_of code) 0 0 ro
 
 -- how many bytes of the output an answer calls the block's
 abbrev pub length_of : Answer → ℕ
-length_of (Block length count) = length
-length_of LimitZero = 0
-length_of (OddStart start) = 0
-length_of (Missing index) = 0
-length_of (NotTaken word) = 0
-length_of OutputShort = 0
+length_of (Ok b) = b.length
+length_of (Err r) = 0

@@ -6,14 +6,14 @@ ghost use Rattle.std.specs.Prelude.{◌≡◌, ◌+◌, ◌*◌, ◌≤◌, leng
 ghost use Rattle.translate.specs.Program.{halfwords_of, length_of, written};
 ghost use Rattle.translate.specs.Prefix.{IsPrefixLen};
 
-use block::Answer;
+use block::{Block, Helpers, Refusal};
 use std::io;
 use std::io::{Read, Write};
 
 fn low_and_high(low: u8, high: u8) -> u16
     ensures { result ≡ low + 256 * high }
 {
-    low as u16 + 256 * high as u16
+    u16::from_le_bytes([low, high])
 }
 
 // The halfwords of the code, little-endian, and how many they are.
@@ -29,16 +29,12 @@ fn read_halfwords(code: &[u8], halfwords: &mut [u16]) -> usize
     n
 }
 
-fn block_length(answer: Answer) -> usize
+fn block_length(answer: Result<Block, Refusal>) -> usize
     ensures { result ≡ length_of answer }
 {
     match answer {
-        Answer::Block { length, count } => length,
-        Answer::LimitZero => 0,
-        Answer::OddStart(_) => 0,
-        Answer::Missing(_) => 0,
-        Answer::NotTaken(_) => 0,
-        Answer::OutputShort => 0,
+        Ok(block) => block.length,
+        Err(_) => 0,
     }
 }
 
@@ -50,7 +46,11 @@ fn block_of(code: &[u8], out: &mut [u8]) -> usize
 {
     let mut halfwords = [0u16; 128];
     let n = read_halfwords(code, &mut halfwords);
-    let answer = block::translate(0x8000_0000, 64, &halfwords[..n], 0, 0, out);
+    let helpers = Helpers {
+        helper16: 0,
+        helper_mem: 0,
+    };
+    let answer = block::translate(0x8000_0000, 64, &halfwords[..n], helpers, out);
     block_length(answer)
 }
 

@@ -2,78 +2,82 @@
 ghost use Rattle.std.specs.Prelude.{◌≡◌, ◌≤◌};
 ghost use Rattle.agreement.specs.Common.{most_steps};
 ghost use Rattle.agreement.specs.X86.Encode.{bytes};
-ghost use Rattle.agreement.specs.Translation.Walk.{ending, goes_on, jumped};
-ghost use Rattle.emitter.specs.Written.{Wrote, Room};
-ghost use Rattle.walk.specs.Walks.{end_as, most, Closes};
+ghost use Rattle.agreement.specs.Translation.Walk.{ending, goes_on, jumped, helper_at};
+ghost use Rattle.emitter.specs.Written.{Writes, HasRoom};
+ghost use Rattle.walk.specs.Walks.{end_as, helper_as, most, Closes};
 
 use emitter::X64Emitter;
+
+// Which helper a block's end calls: that of a compressed halfword, or that of a load or store.
+#[derive(Clone, Copy)]
+pub enum Helper {
+    Halfword,
+    Access,
+}
+
+// The helpers' addresses.
+#[derive(Clone, Copy)]
+pub struct Helpers {
+    pub helper16: u64,
+    pub helper_mem: u64,
+}
+
+impl Helpers {
+    fn address(self, helper: Helper) -> u64
+        ensures { result ≡ helper_at (helper_as helper) self.helper16 self.helper_mem }
+    {
+        match helper {
+            Helper::Halfword => self.helper16,
+            Helper::Access => self.helper_mem,
+        }
+    }
+}
 
 // It goes on at a pc, which the end puts into RAX; or an ending word has set RAX; or a helper is called with an instruction and its pc.
 #[derive(Clone, Copy)]
 pub enum End {
     GoesOn(u64),
     Jumped,
-    Helper16(u16, u64),
-    HelperMem(u32, u64),
+    Calls { helper: Helper, instr: u32, pc: u64 },
 }
 
-fn close_jumped(em: X64Emitter, out: &mut [u8], emitted: u32) -> X64Emitter
-    requires { Room out.old em.at 25 }
-    ensures { Wrote out.old em.at (bytes (ending 0 0 jumped emitted)) out.new result.at }
+#[tactic(auto, unfolding(agreement::specs::Translation::Walk::ending))]
+fn close_jumped(em: &mut X64Emitter<'_>, emitted: u32)
+    requires { HasRoom em.old 25 }
+    ensures { Writes em.old (bytes (ending 0 0 jumped emitted)) em.new }
 {
-    let a = em.mov_r64_imm64(out, X64Emitter::RDX, emitted as u64);
-    words::x64_emit_epilogue(a, out)
+    em.mov_r64_imm64(X64Emitter::RDX, emitted as u64);
+    words::x64_emit_epilogue(em);
 }
 
-fn close_at(em: X64Emitter, out: &mut [u8], pc: u64, emitted: u32) -> X64Emitter
-    requires { Room out.old em.at 35 }
-    ensures { Wrote out.old em.at (bytes (ending 0 0 (goes_on pc) emitted)) out.new result.at }
+#[tactic(auto, unfolding(agreement::specs::Translation::Walk::ending))]
+fn close_at(em: &mut X64Emitter<'_>, pc: u64, emitted: u32)
+    requires { HasRoom em.old 35 }
+    ensures { Writes em.old (bytes (ending 0 0 (goes_on pc) emitted)) em.new }
 {
-    let a = em.mov_r64_imm64(out, X64Emitter::RAX, pc);
-    close_jumped(a, out, emitted)
+    em.mov_r64_imm64(X64Emitter::RAX, pc);
+    close_jumped(em, emitted);
 }
 
-// The place behind a block, and the block's count.
-#[derive(Clone, Copy)]
-pub struct Compiled {
-    pub em: X64Emitter,
-    pub count: u32,
-}
-
-fn with_count(em: X64Emitter, count: u32) -> Compiled
-    ensures { (result.em ≡ em) × (result.count ≡ count) }
-{
-    Compiled { em, count }
-}
-
-// A helper end is an instruction of its own, and counts.
-pub fn close(
-    em: X64Emitter,
-    out: &mut [u8],
-    end: End,
-    emitted: u32,
-    helper16: u64,
-    helper_mem: u64,
-) -> Compiled
-    requires { (emitted ≤ most_steps) × Room out.old em.at (most (end_as end)) }
-    ensures { Closes out.old em.at helper16 helper_mem (end_as end) emitted out.new result }
+// The last instructions, and the block's count. A helper end is an instruction of its own, and counts.
+#[tactic(auto, unfolding(agreement::specs::Translation::Walk::ending, agreement::specs::Translation::Walk::counted))]
+pub fn close(em: &mut X64Emitter<'_>, end: End, emitted: u32, helpers: Helpers) -> u32
+    requires { (emitted ≤ most_steps) × HasRoom em.old (most (end_as end)) }
+    ensures { Closes em.old helpers.helper16 helpers.helper_mem (end_as end) emitted em.new result }
 {
     match end {
-        End::GoesOn(pc) => with_count(close_at(em, out, pc, emitted), emitted),
-        End::Jumped => with_count(close_jumped(em, out, emitted), emitted),
-        End::Helper16(instr, pc) => {
-            let i = instr as u64;
-            with_count(
-                words::emit_native_term_helper_x64(em, out, i, pc, helper16, emitted),
-                emitted + 1,
-            )
+        End::GoesOn(pc) => {
+            close_at(em, pc, emitted);
+            emitted
         }
-        End::HelperMem(instr, pc) => {
-            let i = instr as u64;
-            with_count(
-                words::emit_native_term_helper_x64(em, out, i, pc, helper_mem, emitted),
-                emitted + 1,
-            )
+        End::Jumped => {
+            close_jumped(em, emitted);
+            emitted
+        }
+        End::Calls { helper, instr, pc } => {
+            let address = helpers.address(helper);
+            words::emit_native_term_helper_x64(em, instr as u64, pc, address, emitted);
+            emitted + 1
         }
     }
 }

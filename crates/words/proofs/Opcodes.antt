@@ -15,7 +15,7 @@ use Rattle.agreement.proofs.Laws.Immediates.{imm_i_is, imm_b_is, imm_u_is, imm_j
 use Rattle.agreement.proofs.Laws.Matches.{decide, kind_is}
 use Rattle.words.proofs.FamilyMatches.{each_op, each_op_32, each_op_imm, each_op_imm_32, each_branch, each_fence, each_load}
 use Rattle.words.proofs.FamilyMatches.{each_store}
-use Rattle.words.specs.Word.{Small, word_as, word_by, not_emitted, op_word, op_imm_word, branch_word, fence_word}
+use Rattle.words.specs.Word.{word_as, word_by, not_emitted, op_word, op_imm_word, branch_word, fence_word}
 
 -- OP and OP-32
 abbrev OpIs : ℕ → ℕ → Instruction → Type 0
@@ -149,7 +149,3 @@ word_is pc w h =
       ne_eqb (opcode w) 0x23 m,
     )
     (none_other pc w e i j f g)))))))))))))
-
--- the fields of a word are narrow
-pub small : (w : ℕ) → Small (decoded w)
-small w = record { rd_small = omega arith; rs1_small = omega arith; rs2_small = omega arith; imm12_small = omega arith }

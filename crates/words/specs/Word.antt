@@ -1,6 +1,6 @@
 -- What the emitter makes of a word, by the definitions of crate agreement (Translation/Kind, Emit and Walk): host instructions, and
 -- how the block goes on behind them.
-use Rattle.std.specs.Prelude.{◌≡◌, ℕ, ◌-◌, ◌*◌, ◌/◌, ◌%◌, ◌^◌, ◌<◌, cond, List, [], ◌∷◌, ◌++◌, ◌==◌}
+use Rattle.std.specs.Prelude.{◌≡◌, ℕ, ◌-◌, ◌*◌, ◌/◌, ◌%◌, ◌^◌, cond, List, [], ◌∷◌, ◌++◌, ◌==◌, Option, Some, None}
 use Rattle.agreement.specs.Common.{Helper.for_halfword, Helper.for_access}
 use Rattle.agreement.specs.Riscv.Instruction.{Op, OpImm, Branch, Instruction}
 use Rattle.agreement.specs.Riscv.Instruction.Instruction.{op, op_imm, branch, access, unmodelled, LUI, AUIPC, JAL, JALR, FENCE, FENCE_I}
@@ -17,38 +17,36 @@ use Rattle.agreement.specs.Translation.Kind.{kind_number, kind_op, kind_op32, ki
 use Rattle.agreement.specs.Riscv.Immediates as Manual
 use Rattle.decode.specs.declared.Decoded32.{Decoded32}
 use Rattle.emitter.specs.declared.X64Emitter.{X64Emitter}
-use Rattle.emitter.specs.Written.{Wrote}
+use Rattle.emitter.specs.declared.args.Width.{Width}
+use Rattle.emitter.specs.declared.args.Width.TheVariants.{R32, R64}
+use Rattle.emitter.specs.declared.args.X64Cc.{X64Cc}
+use Rattle.emitter.specs.Args.{cc_of}
+use Rattle.emitter.specs.Written.{Writes}
 use Rattle.words.specs.declared.X64EmitFlow.{X64EmitFlow}
-use Rattle.words.specs.declared.X64EmitFlow.TheVariants.{Continue, Terminate, StopBehind, NotEmitted}
-use Rattle.words.specs.declared.Emitted.{Emitted}
+use Rattle.words.specs.declared.X64EmitFlow.TheVariants.{Continue, Terminate, StopBehind}
 
--- 1. A word: how the block goes on behind it, and its host instructions
+-- 1. A word: how the block goes on behind it, none where the word is not emitted, and its host instructions
 
 pub record Word : Type 0 where
-  pub flow : X64EmitFlow
+  pub flow : Option X64EmitFlow
   pub code : List Instr
 
 abbrev pub goes_on : List Instr → Word
-goes_on is = record { flow = Continue; code = is }
+goes_on is = record { flow = Some Continue; code = is }
 
 abbrev pub ends : List Instr → Word
-ends is = record { flow = Terminate; code = is }
+ends is = record { flow = Some Terminate; code = is }
 
 abbrev pub stops_behind : List Instr → Word
-stops_behind is = record { flow = StopBehind; code = is }
+stops_behind is = record { flow = Some StopBehind; code = is }
 
 abbrev pub not_emitted : List Instr → Word
-not_emitted is = record { flow = NotEmitted; code = is }
+not_emitted is = record { flow = None; code = is }
 
--- the answer of a word: how the block goes on, and the emitter behind what was written
-pub record Answers (f : X64EmitFlow) (em : X64Emitter) (e : Emitted) : Type 0 where
-  pub flows : e.flow ≡ f
-  pub stands : e.em ≡ em
-
--- the word was written at the emitter's place
-pub record Emits (before : List ℕ) (at : ℕ) (w : Word) (after : List ℕ) (e : Emitted) : Type 0 where
-  pub flows : e.flow ≡ w.flow
-  pub wrote : Wrote before at (bytes w.code) after e.em.at
+-- the emitter wrote the word, and answers how the block goes on
+pub record Emits (old : X64Emitter) (w : Word) (new : X64Emitter) (r : Option X64EmitFlow) : Type 0 where
+  pub flows : r ≡ w.flow
+  pub writes : Writes old (bytes w.code) new
 
 -- 2. By the instruction that `kind` names
 
@@ -81,15 +79,11 @@ abbrev pub load_pair : ℕ → ℕ → List Instr
 load_pair r s = load_reg R10 r ∷ load_reg R11 s ∷ []
 
 -- the store of the result, where the word goes on
-abbrev pub store_if : ℕ → X64EmitFlow → List Instr
-store_if r Continue = store_reg r R10
-store_if r Terminate = []
-store_if r StopBehind = []
-store_if r NotEmitted = []
-
--- the store behind a body that answers f; the word answers the same
-abbrev pub stored : ℕ → X64EmitFlow → Word
-stored r f = record { flow = f; code = store_if r f }
+abbrev pub store_if : ℕ → Option X64EmitFlow → List Instr
+store_if r (Some Continue) = store_reg r R10
+store_if r (Some Terminate) = []
+store_if r (Some StopBehind) = []
+store_if r None = []
 
 -- loads, a body, and the store behind it
 abbrev pub finished : List Instr → Word → ℕ → Word
@@ -103,6 +97,11 @@ behind is w = record { flow = w.flow; code = is ++ w.code }
 abbrev pub select : Cc → ℕ → ℕ → List Instr
 select c next target = mov_imm64 R11 next ∷ mov_imm64 RAX target ∷ cmov c R11 RAX ∷ mov RAX R11 ∷ []
 
+-- a branch with that condition; one without is not emitted
+abbrev pub select_if : Option X64Cc → ℕ → ℕ → Word
+select_if (Some cc) next target = ends (select (cc_of cc) next target)
+select_if None next target = not_emitted []
+
 -- the first part of `code_jalr`: the target in R10
 abbrev pub jalr_target : ℕ → ℕ → List Instr
 jalr_target r i = load_reg R10 r ∷ alu_imm32 add R10 i ∷ alu_imm32 and R10 (2 ^ 32 - 2) ∷ []
@@ -112,13 +111,6 @@ abbrev pub jalr_link : ℕ → ℕ → List Instr
 jalr_link r link = cond (r == 0) [] (mov_imm64 R11 link ∷ store RBX (8 * r) R11 ∷ [])
 
 -- 4. By the word's fields d, and the instruction k that the match of its family gives
-
--- the registers and the immediate are as narrow as their fields
-pub record Small (d : Decoded32) : Type 0 where
-  pub rd_small : d.rd < 32
-  pub rs1_small : d.rs1 < 32
-  pub rs2_small : d.rs2 < 32
-  pub imm12_small : d.imm12 < 4096
 
 -- what a family of words has, by the instruction that its match gives: OP, OP-IMM, BRANCH; FENCE and FENCE.I, the two of MISC-MEM; all
 -- else is not emitted
@@ -141,9 +133,9 @@ abbrev pub op_body : Instruction → Word
 op_body k = by_family (λ o. goes_on (body_op o)) (λ _. not_emitted []) (λ _. not_emitted []) (not_emitted []) (not_emitted []) k
 
 -- the part of OP-IMM and OP-IMM-32 that works on R10; i: the immediate's 32 bits
-abbrev pub op_imm_body : Instruction → Decoded32 → ℕ → Word
-op_imm_body k d i =
-    by_family (λ _. not_emitted []) (λ o. goes_on (body_op_imm o i (d.imm12 % 64) (d.imm12 % 32))) (λ _. not_emitted [])
+abbrev pub op_imm_body : Instruction → ℕ → ℕ → Word
+op_imm_body k imm12 i =
+    by_family (λ _. not_emitted []) (λ o. goes_on (body_op_imm o i (imm12 % 64) (imm12 % 32))) (λ _. not_emitted [])
     (not_emitted []) (not_emitted []) k
 
 -- the part of BRANCH behind the comparison
@@ -151,11 +143,20 @@ abbrev pub branch_body : Instruction → ℕ → ℕ → Word
 branch_body k next target =
     by_family (λ _. not_emitted []) (λ _. not_emitted []) (λ c. ends (select (cc_for c) next target)) (not_emitted []) (not_emitted []) k
 
+-- the instruction of a word of 64 bits and of one of 32, by the match of its family
+abbrev pub kind_op_of : Width → ℕ → ℕ → Instruction
+kind_op_of R64 f s = kind_op f s
+kind_op_of R32 f s = kind_op32 f s
+
+abbrev pub kind_op_imm_of : Width → ℕ → ℕ → ℕ → Instruction
+kind_op_imm_of R64 f s imm12 = kind_op_imm f (imm12 / 64)
+kind_op_imm_of R32 f s imm12 = kind_op_imm32 f s
+
 abbrev pub op_word : Instruction → Decoded32 → Word
 op_word k d = finished (load_pair d.rs1 d.rs2) (op_body k) d.rd
 
 abbrev pub op_imm_word : Instruction → Decoded32 → ℕ → Word
-op_imm_word k d i = finished (load_reg R10 d.rs1 ∷ []) (op_imm_body k d i) d.rd
+op_imm_word k d i = finished (load_reg R10 d.rs1 ∷ []) (op_imm_body k d.imm12 i) d.rd
 
 abbrev pub branch_word : Instruction → Decoded32 → ℕ → ℕ → Word
 branch_word k d next target = behind (compare d.rs1 d.rs2) (branch_body k next target)

@@ -3,66 +3,66 @@ ghost use Rattle.std.specs.Prelude.{[], ◌∷◌, ◌++◌};
 ghost use Rattle.agreement.specs.X86.Form.{ret};
 ghost use Rattle.agreement.specs.X86.Encode.{bytes};
 ghost use Rattle.agreement.specs.Translation.Emit.{opening, closing};
-ghost use Rattle.emitter.specs.Written.{Wrote, Room};
+ghost use Rattle.emitter.specs.Written.{Writes, HasRoom};
 ghost use Rattle.words.specs.Word.{pushes, keeps, pops};
 
-use emitter::X64Emitter;
+use emitter::{Alu, X64Emitter};
 
 // The callee-saved registers.
-fn x64_emit_pushes(em: X64Emitter, out: &mut [u8]) -> X64Emitter
-    requires { Room out.old em.at 10 }
-    ensures { Wrote out.old em.at (bytes pushes) out.new result.at }
+fn x64_emit_pushes(em: &mut X64Emitter<'_>)
+    requires { HasRoom em.old 10 }
+    ensures { Writes em.old (bytes pushes) em.new }
 {
-    let a = em.push_r64(out, X64Emitter::RBX);
-    let b = a.push_r64(out, X64Emitter::RBP);
-    let c = b.push_r64(out, X64Emitter::R12);
-    let d = c.push_r64(out, X64Emitter::R13);
-    let e = d.push_r64(out, X64Emitter::R14);
-    e.push_r64(out, X64Emitter::R15)
+    em.push_r64(X64Emitter::RBX);
+    em.push_r64(X64Emitter::RBP);
+    em.push_r64(X64Emitter::R12);
+    em.push_r64(X64Emitter::R13);
+    em.push_r64(X64Emitter::R14);
+    em.push_r64(X64Emitter::R15);
 }
 
 // The block's arguments in callee-saved registers.
-fn x64_emit_keeps(em: X64Emitter, out: &mut [u8]) -> X64Emitter
-    requires { Room out.old em.at 18 }
-    ensures { Wrote out.old em.at (bytes keeps) out.new result.at }
+fn x64_emit_keeps(em: &mut X64Emitter<'_>)
+    requires { HasRoom em.old 18 }
+    ensures { Writes em.old (bytes keeps) em.new }
 {
-    let a = em.mov_r64_r64(out, X64Emitter::RBX, X64Emitter::RDI);
-    let b = a.mov_r64_r64(out, X64Emitter::R12, X64Emitter::RSI);
-    let c = b.mov_r64_r64(out, X64Emitter::R13, X64Emitter::RDX);
-    let d = c.mov_r64_r64(out, X64Emitter::R14, X64Emitter::RCX);
-    let e = d.mov_r64_r64(out, X64Emitter::R15, X64Emitter::R8);
-    e.mov_r64_r64(out, X64Emitter::RBP, X64Emitter::R9)
+    em.mov_r64_r64(X64Emitter::RBX, X64Emitter::RDI);
+    em.mov_r64_r64(X64Emitter::R12, X64Emitter::RSI);
+    em.mov_r64_r64(X64Emitter::R13, X64Emitter::RDX);
+    em.mov_r64_r64(X64Emitter::R14, X64Emitter::RCX);
+    em.mov_r64_r64(X64Emitter::R15, X64Emitter::R8);
+    em.mov_r64_r64(X64Emitter::RBP, X64Emitter::R9);
 }
 
 // What a block opens with.
-pub fn x64_emit_prologue(em: X64Emitter, out: &mut [u8]) -> X64Emitter
-    requires { Room out.old em.at 32 }
-    ensures { Wrote out.old em.at (bytes opening) out.new result.at }
+pub fn x64_emit_prologue(em: &mut X64Emitter<'_>)
+    requires { HasRoom em.old 32 }
+    ensures { Writes em.old (bytes opening) em.new }
 {
-    let a = x64_emit_pushes(em, out);
-    let b = a.sub_rsp_imm8(out, 8);
-    x64_emit_keeps(b, out)
+    x64_emit_pushes(em);
+    em.alu_r64_imm8(Alu::Sub, X64Emitter::RSP, 8);
+    x64_emit_keeps(em);
 }
 
 // The callee-saved registers back.
-fn x64_emit_pops(em: X64Emitter, out: &mut [u8]) -> X64Emitter
-    requires { Room out.old em.at 10 }
-    ensures { Wrote out.old em.at (bytes pops) out.new result.at }
+fn x64_emit_pops(em: &mut X64Emitter<'_>)
+    requires { HasRoom em.old 10 }
+    ensures { Writes em.old (bytes pops) em.new }
 {
-    let a = em.pop_r64(out, X64Emitter::R15);
-    let b = a.pop_r64(out, X64Emitter::R14);
-    let c = b.pop_r64(out, X64Emitter::R13);
-    let d = c.pop_r64(out, X64Emitter::R12);
-    let e = d.pop_r64(out, X64Emitter::RBP);
-    e.pop_r64(out, X64Emitter::RBX)
+    em.pop_r64(X64Emitter::R15);
+    em.pop_r64(X64Emitter::R14);
+    em.pop_r64(X64Emitter::R13);
+    em.pop_r64(X64Emitter::R12);
+    em.pop_r64(X64Emitter::RBP);
+    em.pop_r64(X64Emitter::RBX);
 }
 
 // What a block closes with.
-pub fn x64_emit_epilogue(em: X64Emitter, out: &mut [u8]) -> X64Emitter
-    requires { Room out.old em.at 15 }
-    ensures { Wrote out.old em.at (bytes (closing ++ «ret» ∷ [])) out.new result.at }
+pub fn x64_emit_epilogue(em: &mut X64Emitter<'_>)
+    requires { HasRoom em.old 15 }
+    ensures { Writes em.old (bytes (closing ++ «ret» ∷ [])) em.new }
 {
-    let a = em.add_rsp_imm8(out, 8);
-    let b = x64_emit_pops(a, out);
-    b.ret(out)
+    em.alu_r64_imm8(Alu::Add, X64Emitter::RSP, 8);
+    x64_emit_pops(em);
+    em.ret();
 }

@@ -1,82 +1,118 @@
 // The arms OPCODE_OP_IMM and OPCODE_OP_IMM_32. A shift is taken by the bits above its amount.
-ghost use Rattle.std.specs.Prelude.{◌/◌, ◌<◌};
+ghost use Rattle.std.specs.Prelude.{◌/◌};
 ghost use Rattle.agreement.specs.Translation.Kind.{kind_op_imm, kind_op_imm32};
-ghost use Rattle.emitter.specs.Written.{Room};
-ghost use Rattle.words.specs.Word.{Emits, Small, op_imm_body, op_imm_word};
+ghost use Rattle.emitter.specs.Written.{HasRoom};
+ghost use Rattle.words.specs.Word.{Emits, op_imm_body, kind_op_imm_of, op_imm_word};
 
-use crate::result::{set_flag, sign_extended, store_rd};
-use crate::slots::x64_emit_load_reg;
-use crate::{Emitted, goes_on, not_emitted};
+use crate::X64EmitFlow;
+use crate::result::{set_flag, sign_extended};
+use crate::slots::{x64_emit_load_reg, x64_emit_store_reg};
 use decode::{Decoded32, isa};
-use emitter::{X64Cc, X64Emitter};
+use emitter::{Alu, Shift, Width, X64Cc, X64Emitter};
 
 // OP-IMM on R10, the result in R10.
-fn op_imm_on_r10(em: X64Emitter, out: &mut [u8], d: Decoded32, imm: u32) -> Emitted
-    requires { (d.imm12 < 4096) × Room out.old em.at 14 }
-    ensures { Emits out.old em.at (op_imm_body (kind_op_imm d.funct3 (d.imm12 / 64)) d imm) out.new result }
+fn op_imm_64_on_r10(
+    em: &mut X64Emitter<'_>,
+    funct3: u8,
+    imm12: u16,
+    imm: u32,
+) -> Option<X64EmitFlow>
+    requires { HasRoom em.old 14 }
+    ensures { Emits em.old (op_imm_body (kind_op_imm funct3 (imm12 / 64)) imm12 imm) em.new result }
 {
-    let funct3 = d.funct3;
-    let imm_hi = (d.imm12 / 64) as u8;
-    let shamt = (d.imm12 % 64) as u8;
+    let imm_hi = imm12 / 64;
+    let shamt = (imm12 % 64) as u8;
     match funct3 {
-        isa::F3_ADD_SUB => goes_on(em.add_r64_imm32(out, X64Emitter::R10, imm)),
-        isa::F3_SLT => set_flag(em.cmp_r64_imm32(out, X64Emitter::R10, imm), out, X64Cc::L),
-        isa::F3_SLTU => set_flag(em.cmp_r64_imm32(out, X64Emitter::R10, imm), out, X64Cc::B),
-        isa::F3_XOR => goes_on(em.xor_r64_imm32(out, X64Emitter::R10, imm)),
-        isa::F3_OR => goes_on(em.or_r64_imm32(out, X64Emitter::R10, imm)),
-        isa::F3_AND => goes_on(em.and_r64_imm32(out, X64Emitter::R10, imm)),
+        isa::F3_ADD_SUB => em.alu_r64_imm32(Alu::Add, X64Emitter::R10, imm),
+        isa::F3_SLT => {
+            em.alu_r64_imm32(Alu::Cmp, X64Emitter::R10, imm);
+            set_flag(em, X64Cc::L);
+        }
+        isa::F3_SLTU => {
+            em.alu_r64_imm32(Alu::Cmp, X64Emitter::R10, imm);
+            set_flag(em, X64Cc::B);
+        }
+        isa::F3_XOR => em.alu_r64_imm32(Alu::Xor, X64Emitter::R10, imm),
+        isa::F3_OR => em.alu_r64_imm32(Alu::Or, X64Emitter::R10, imm),
+        isa::F3_AND => em.alu_r64_imm32(Alu::And, X64Emitter::R10, imm),
         isa::F3_SLL => match imm_hi {
-            0x00 => goes_on(em.shl_r64_imm8(out, X64Emitter::R10, shamt)),
-            _ => not_emitted(em),
+            0x00 => em.shift_imm8(Width::R64, Shift::Shl, X64Emitter::R10, shamt),
+            _ => return None,
         },
         isa::F3_SRL_SRA => match imm_hi {
-            0x00 => goes_on(em.shr_r64_imm8(out, X64Emitter::R10, shamt)),
-            0x10 => goes_on(em.sar_r64_imm8(out, X64Emitter::R10, shamt)),
-            _ => not_emitted(em),
+            0x00 => em.shift_imm8(Width::R64, Shift::Shr, X64Emitter::R10, shamt),
+            0x10 => em.shift_imm8(Width::R64, Shift::Sar, X64Emitter::R10, shamt),
+            _ => return None,
         },
-        _ => not_emitted(em),
+        _ => return None,
     }
+    Some(X64EmitFlow::Continue)
 }
 
 // OP-IMM-32 on R10, the result in R10.
-fn op_imm_32_on_r10(em: X64Emitter, out: &mut [u8], d: Decoded32, imm: u32) -> Emitted
-    requires { (d.imm12 < 4096) × Room out.old em.at 14 }
-    ensures { Emits out.old em.at (op_imm_body (kind_op_imm32 d.funct3 d.funct7) d imm) out.new result }
+fn op_imm_32_on_r10(
+    em: &mut X64Emitter<'_>,
+    funct3: u8,
+    funct7: u8,
+    imm12: u16,
+    imm: u32,
+) -> Option<X64EmitFlow>
+    requires { HasRoom em.old 14 }
+    ensures { Emits em.old (op_imm_body (kind_op_imm32 funct3 funct7) imm12 imm) em.new result }
 {
-    let funct3 = d.funct3;
-    let funct7 = d.funct7;
-    let shamt = (d.imm12 % 32) as u8;
+    let shamt = (imm12 % 32) as u8;
     match funct3 {
-        isa::F3_ADD_SUB => sign_extended(em.add_r64_imm32(out, X64Emitter::R10, imm), out),
+        isa::F3_ADD_SUB => {
+            em.alu_r64_imm32(Alu::Add, X64Emitter::R10, imm);
+            sign_extended(em)
+        }
         isa::F3_SLL => match funct7 {
-            isa::F7_BASE => sign_extended(em.shl_r32_imm8(out, X64Emitter::R10, shamt), out),
-            _ => not_emitted(em),
+            isa::F7_BASE => {
+                em.shift_imm8(Width::R32, Shift::Shl, X64Emitter::R10, shamt);
+                sign_extended(em)
+            }
+            _ => None,
         },
         isa::F3_SRL_SRA => match funct7 {
-            isa::F7_BASE => sign_extended(em.shr_r32_imm8(out, X64Emitter::R10, shamt), out),
-            isa::F7_SUB_SRA => sign_extended(em.sar_r32_imm8(out, X64Emitter::R10, shamt), out),
-            _ => not_emitted(em),
+            isa::F7_BASE => {
+                em.shift_imm8(Width::R32, Shift::Shr, X64Emitter::R10, shamt);
+                sign_extended(em)
+            }
+            isa::F7_SUB_SRA => {
+                em.shift_imm8(Width::R32, Shift::Sar, X64Emitter::R10, shamt);
+                sign_extended(em)
+            }
+            _ => None,
         },
-        _ => not_emitted(em),
+        _ => None,
     }
 }
 
-// OP-IMM.
-pub fn op_imm_word(em: X64Emitter, out: &mut [u8], d: Decoded32, imm: u32) -> Emitted
-    requires { Small d × Room out.old em.at 34 }
-    ensures { Emits out.old em.at (op_imm_word (kind_op_imm d.funct3 (d.imm12 / 64)) d imm) out.new result }
+// OP-IMM on R10, the result in R10; of 32 bits OP-IMM-32.
+fn op_imm_on_r10(
+    em: &mut X64Emitter<'_>,
+    w: Width,
+    funct3: u8,
+    funct7: u8,
+    imm12: u16,
+    imm: u32,
+) -> Option<X64EmitFlow>
+    requires { HasRoom em.old 14 }
+    ensures { Emits em.old (op_imm_body (kind_op_imm_of w funct3 funct7 imm12) imm12 imm) em.new result }
 {
-    let a = x64_emit_load_reg(em, out, X64Emitter::R10, d.rs1);
-    let e = op_imm_on_r10(a, out, d, imm);
-    store_rd(e, out, d.rd)
+    match w {
+        Width::R64 => op_imm_64_on_r10(em, funct3, imm12, imm),
+        Width::R32 => op_imm_32_on_r10(em, funct3, funct7, imm12, imm),
+    }
 }
 
-// OP-IMM-32.
-pub fn op_imm_32_word(em: X64Emitter, out: &mut [u8], d: Decoded32, imm: u32) -> Emitted
-    requires { Small d × Room out.old em.at 34 }
-    ensures { Emits out.old em.at (op_imm_word (kind_op_imm32 d.funct3 d.funct7) d imm) out.new result }
+// OP-IMM; of 32 bits OP-IMM-32.
+pub fn op_imm_word(em: &mut X64Emitter<'_>, w: Width, d: Decoded32, imm: u32) -> Option<X64EmitFlow>
+    requires { HasRoom em.old 34 }
+    ensures { Emits em.old (op_imm_word (kind_op_imm_of w d.funct3 d.funct7 d.imm12) d imm) em.new result }
 {
-    let a = x64_emit_load_reg(em, out, X64Emitter::R10, d.rs1);
-    let e = op_imm_32_on_r10(a, out, d, imm);
-    store_rd(e, out, d.rd)
+    x64_emit_load_reg(em, X64Emitter::R10, d.rs1);
+    let flow = op_imm_on_r10(em, w, d.funct3, d.funct7, d.imm12, imm)?;
+    x64_emit_store_reg(em, d.rd, X64Emitter::R10);
+    Some(flow)
 }

@@ -1,6 +1,7 @@
 -- Each way through the tests is one of ReplyLaws.
-use Rattle.std.proofs.Common.{sym}
-use Rattle.block.proofs.ReplyLaws.{if_limit_zero, if_odd_start, if_first, limit_zero_lem, odd_start_lem, missing_halfword, not_taken}
+use Rattle.std.proofs.Common.{refl, sym}
+use Rattle.std.proofs.lemmas.Result.{err_from_is_err_and}
+use Rattle.block.proofs.ReplyLaws.{if_limit_zero, if_odd_start, if_first, limit_zero_lem, odd_start_lem, first_refused, begun}
 use Rattle.block.proofs.ReplyLaws.{output_short_lem, made}
 use Rattle.block.proofs.translate.Goals as goal
 
@@ -10,22 +11,20 @@ returns-then-limit-eq0-clause-translates c = limit_zero_lem (if_limit_zero _ _ _
 pub returns-then-start-eq1-clause-translates : goal.returns-then-start-eq1-clause-translates
 returns-then-start-eq1-clause-translates c = odd_start_lem (if_odd_start _ _ _ _ _ _ c.if-limit-eq0.false c.if-start-eq1.true)
 
+pub returns-in_err-first_word-clause-translates : goal.returns-in_err-first_word-clause-translates
+returns-in_err-first_word-clause-translates c =
+    let p = err_from_is_err_and c.from_residual.result c.from_residual.ensures.1 in
+    rw (p.1, p.2) (first_refused _ _ c.in_err-first_word.ensures (if_first _ _ _ _ _ _ c.if-limit-eq0.false c.if-start-eq1.false refl))
+
 pub returns-then-out-lt-GREATEST-clause-translates : goal.returns-then-out-lt-GREATEST-clause-translates
 returns-then-out-lt-GREATEST-clause-translates c =
-    output_short_lem _ c.if-out-lt-GREATEST.true (if_first _ _ _ _ _ _ c.if-limit-eq0.false c.if-start-eq1.false (sym c.in-Begins.ensures))
-
-pub returns-in-Lacks-clause-translates : goal.returns-in-Lacks-clause-translates
-returns-in-Lacks-clause-translates c =
-    missing_halfword _ _ (if_first _ _ _ _ _ _ c.if-limit-eq0.false c.if-start-eq1.false (sym c.in-Lacks.ensures))
-
-pub returns-in-Untaken-clause-translates : goal.returns-in-Untaken-clause-translates
-returns-in-Untaken-clause-translates c =
-    not_taken _ _ (if_first _ _ _ _ _ _ c.if-limit-eq0.false c.if-start-eq1.false (sym c.in-Untaken.ensures))
+    output_short_lem _ c.if-out-lt-GREATEST.true
+    (if_first _ _ _ _ _ _ c.if-limit-eq0.false c.if-start-eq1.false (begun _ c.in_ok-first_word.ensures))
 
 -- a block at the front of the output, whose length counts bytes that stand there
-pub returns-else-out-lt-GREATEST : goal.returns-else-out-lt-GREATEST
-returns-else-out-lt-GREATEST c =
+pub returns : goal.returns
+returns c =
     let block = made c.args.start c.args.limit _ _ _ _ c.if-out-lt-GREATEST.false
-    (if_first _ _ _ _ _ _ c.if-limit-eq0.false c.if-start-eq1.false (sym c.in-Begins.ensures))
-    c.steps-n.ensures.0 c.compile_native_block-b.ensures in
+    (if_first _ _ _ _ _ _ c.if-limit-eq0.false c.if-start-eq1.false (begun _ c.in_ok-first_word.ensures))
+    c.min-steps.ensures c.compile_native_block.ensures in
     record { translates = block.0; fits = block.1 }

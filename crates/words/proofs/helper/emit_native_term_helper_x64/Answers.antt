@@ -9,5 +9,5 @@ pub returns : goal.returns
 unfolding ending
 returns c =
     let a = c.args in
-    joined (passes a.instr a.pc a.helper ++ call_rax ∷ []) (add_count a.prefix_count ++ (closing ++ ret ∷ [])) c.helper_call-a.ensures
-    (joined (add_count a.prefix_count) (closing ++ ret ∷ []) c.add_count-b.ensures.0 c.x64_emit_epilogue.ensures)
+    joined (passes a.instr a.pc a.helper ++ call_rax ∷ []) (add_count a.prefix_count ++ (closing ++ ret ∷ [])) c.helper_call.ensures
+    (joined (add_count a.prefix_count) (closing ++ ret ∷ []) c.add_count.ensures.written c.x64_emit_epilogue.ensures)

@@ -1,40 +1,39 @@
 use Rattle.std.proofs.Common.{rules, ne_eqb}
 use Rattle.agreement.specs.Translation.Kind.{kind_op, match}
-use Rattle.words.proofs.Joined.{words}
 use Rattle.words.proofs.op.op_base.Goals as goal
 
 pub returns-in-0 : goal.returns-in-0
 unfolding kind_op match
-returns-in-0 c = rw c.in-0.is (search (words, rules))
+returns-in-0 c = rw c.in-0.is (search rules)
 
 pub returns-in-1 : goal.returns-in-1
 unfolding kind_op match
-returns-in-1 c = rw c.in-1.is (search (words, rules))
+returns-in-1 c = rw c.in-1.is (search rules)
 
 pub returns-in-2 : goal.returns-in-2
 unfolding kind_op match
-returns-in-2 c = rw c.in-2.is (search (words, rules))
+returns-in-2 c = rw c.in-2.is (search rules)
 
 pub returns-in-3 : goal.returns-in-3
 unfolding kind_op match
-returns-in-3 c = rw c.in-3.is (search (words, rules))
+returns-in-3 c = rw c.in-3.is (search rules)
 
 pub returns-in-4 : goal.returns-in-4
 unfolding kind_op match
-returns-in-4 c = rw c.in-4.is (search (words, rules))
+returns-in-4 c = rw c.in-4.is (search rules)
 
 pub returns-in-5 : goal.returns-in-5
 unfolding kind_op match
-returns-in-5 c = rw c.in-5.is (search (words, rules))
+returns-in-5 c = rw c.in-5.is (search rules)
 
 pub returns-in-6 : goal.returns-in-6
 unfolding kind_op match
-returns-in-6 c = rw c.in-6.is (search (words, rules))
+returns-in-6 c = rw c.in-6.is (search rules)
 
 pub returns-in-7 : goal.returns-in-7
 unfolding kind_op match
-returns-in-7 c = rw c.in-7.is (search (words, rules))
+returns-in-7 c = rw c.in-7.is (search rules)
 
 pub returns-in_default : goal.returns-in_default
 unfolding kind_op match
-returns-in_default c = simp (ne_eqb c.args.funct3 0 (search rules), ne_eqb c.args.funct3 1 (search rules), ne_eqb c.args.funct3 2 (search rules), ne_eqb c.args.funct3 3 (search rules), ne_eqb c.args.funct3 4 (search rules), ne_eqb c.args.funct3 5 (search rules), ne_eqb c.args.funct3 6 (search rules), ne_eqb c.args.funct3 7 (search rules)) (search (words, rules))
+returns-in_default c = simp (ne_eqb c.args.funct3 0 (search rules), ne_eqb c.args.funct3 1 (search rules), ne_eqb c.args.funct3 2 (search rules), ne_eqb c.args.funct3 3 (search rules), ne_eqb c.args.funct3 4 (search rules), ne_eqb c.args.funct3 5 (search rules), ne_eqb c.args.funct3 6 (search rules), ne_eqb c.args.funct3 7 (search rules)) (search rules)
