@@ -8,7 +8,11 @@ ghost use Rattle.kind.specs.Numbered as Numbered;
 ghost use Rattle.store.specs.Places as Places;
 ghost use Rattle.index.specs.Answers as Indexed;
 ghost use Rattle.capi.specs.Replies.{padded, Replies, RepliesToPlacing};
-ghost use Rattle.capi.specs.Indexes.{told, RepliesToFind, RepliesToInsert};
+ghost use Rattle.capi.specs.Indexes.{RepliesToFind, RepliesToInsert};
+
+use entry::{Entry, Key, NativeBlock};
+use index::Full;
+use store::{NativeCodeCache, Placed, Refused};
 
 // Document 01, "Replies": the number, 0 where there is none, and its values, 0 where there are fewer.
 #[repr(C)]
@@ -59,13 +63,14 @@ pub extern "C" fn emuko_translate(
     reply_to_translation(answer)
 }
 
-fn reply_to_placing(placing: store::Placing) -> Reply
-    ensures { result ≡ padded (Places.answered placing) }
-{
-    match placing {
-        store::Placing::Placed { offset, mark } => numbers(0, offset as u64, mark as u64),
-        store::Placing::Beyond => numbers(6, 0, 0),
-        store::Placing::Full => numbers(7, 0, 0),
+impl From<Result<Placed, Refused>> for Reply {
+    ghost from_gives = { λ a r. r ≡ padded (Places.answered a) };
+
+    fn from(answer: Result<Placed, Refused>) -> Reply {
+        match answer {
+            Ok(placed) => numbers(0, placed.offset as u64, placed.mark as u64),
+            Err(refused) => numbers(refused as u64, 0, 0),
+        }
     }
 }
 
@@ -74,8 +79,7 @@ fn reply_to_placing(placing: store::Placing) -> Reply
 pub extern "C" fn emuko_place(code: &[u8], store: &mut [u8], used: usize) -> Reply
     ensures { RepliesToPlacing code.now used store.old store.new result }
 {
-    let placing = store::place(code, store, used);
-    reply_to_placing(placing)
+    store::place(code, store, used).into()
 }
 
 fn number_of_kind(what: kind::WordKind) -> u32
@@ -98,53 +102,41 @@ pub extern "C" fn emuko_word_kind(instr: u32) -> u32
     number_of_kind(kind::word_kind(instr))
 }
 
-fn reply_to_find(found: index::Found) -> entry::Entry
-    ensures { result ≡ told (Indexed.shown found) }
-{
-    match found {
-        index::Found::Shown { entry } => entry,
-        index::Found::Nothing => entry::blank(),
-    }
-}
-
 // The entry in use that has the key; where there is none, an entry of zeros, which is not in use.
 #[unsafe(no_mangle)]
-pub extern "C" fn emuko_index_find(entries: &[entry::Entry], satp: u64, pc: u64) -> entry::Entry
+pub extern "C" fn emuko_index_find(entries: &[Entry], satp: u64, pc: u64) -> Entry
     ensures { RepliesToFind entries.now satp pc result }
 {
-    let found = index::find(entries, satp, pc);
-    reply_to_find(found)
+    index::find(entries, Key { satp, pc }).unwrap_or_default()
 }
 
-fn reply_to_inserting(inserting: index::Inserting) -> Reply
-    ensures { result ≡ padded (Indexed.numbered inserting) }
-{
-    match inserting {
-        index::Inserting::At { index } => numbers(0, index as u64, 0),
-        index::Inserting::Full => numbers(8, 0, 0),
+impl From<Result<usize, Full>> for Reply {
+    ghost from_gives = { λ a r. r ≡ padded (Indexed.numbered a) };
+
+    fn from(answer: Result<usize, Full>) -> Reply {
+        match answer {
+            Ok(index) => numbers(0, index as u64, 0),
+            Err(Full) => numbers(8, 0, 0),
+        }
     }
 }
 
 // inserted: index; 8
 #[unsafe(no_mangle)]
 pub extern "C" fn emuko_index_insert(
-    entries: &mut [entry::Entry],
+    entries: &mut [Entry],
     satp: u64,
     pc: u64,
-    block: entry::NativeBlock,
+    block: NativeBlock,
 ) -> Reply
     ensures { RepliesToInsert entries.old entries.new satp pc block result }
 {
-    let inserting = index::insert(entries, satp, pc, block);
-    reply_to_inserting(inserting)
+    index::insert(entries, Key { satp, pc }, block).into()
 }
 
 // Every mark is cleared, and the store's mark returns to 0.
 #[unsafe(no_mangle)]
-pub extern "C" fn emuko_index_empty(
-    entries: &mut [entry::Entry],
-    cache: &mut store::NativeCodeCache,
-)
+pub extern "C" fn emuko_index_empty(entries: &mut [Entry], cache: &mut NativeCodeCache)
     ensures { Indexed.Empties entries.old entries.new cache.new.used }
 {
     index::empty(entries, cache);
