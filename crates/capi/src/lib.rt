@@ -4,12 +4,12 @@
 ghost use Rattle.std.specs.Prelude.{◌≡◌};
 ghost use Rattle.agreement.specs.Translation.Kind.{kind, kind_number};
 ghost use Rattle.block.specs.Answers as Answers;
-ghost use Rattle.kind.specs.Numbered as Numbered;
 ghost use Rattle.store.specs.Places as Places;
 ghost use Rattle.index.specs.Answers as Indexed;
 ghost use Rattle.capi.specs.Replies.{padded, Replies, RepliesToPlacing};
 ghost use Rattle.capi.specs.Indexes.{RepliesToFind, RepliesToInsert};
 
+use block::{Block, Helpers, Refusal};
 use entry::{Entry, Key, NativeBlock};
 use index::Full;
 use store::{NativeCodeCache, Placed, Refused};
@@ -33,16 +33,18 @@ fn numbers(number: u64, first: u64, second: u64) -> Reply
     }
 }
 
-fn reply_to_translation(answer: block::Answer) -> Reply
-    ensures { result ≡ padded (Answers.answered answer) }
-{
-    match answer {
-        block::Answer::Block { length, count } => numbers(0, length as u64, count as u64),
-        block::Answer::LimitZero => numbers(1, 0, 0),
-        block::Answer::OddStart(start) => numbers(2, start, 0),
-        block::Answer::Missing(index) => numbers(3, index as u64, 0),
-        block::Answer::NotTaken(word) => numbers(4, word as u64, 0),
-        block::Answer::OutputShort => numbers(5, 0, 0),
+impl From<Result<Block, Refusal>> for Reply {
+    ghost from_gives = { λ a r. r ≡ padded (Answers.answered a) };
+
+    fn from(answer: Result<Block, Refusal>) -> Reply {
+        match answer {
+            Ok(block) => numbers(0, block.length as u64, block.count as u64),
+            Err(Refusal::LimitZero) => numbers(1, 0, 0),
+            Err(Refusal::OddStart(start)) => numbers(2, start, 0),
+            Err(Refusal::Missing(index)) => numbers(3, index as u64, 0),
+            Err(Refusal::NotTaken(word)) => numbers(4, word as u64, 0),
+            Err(Refusal::OutputShort) => numbers(5, 0, 0),
+        }
     }
 }
 
@@ -59,8 +61,11 @@ pub extern "C" fn emuko_translate(
     ensures { Replies start limit halfwords.now helper16 helper_mem
         out.old out.new result }
 {
-    let answer = block::translate(start, limit, halfwords, helper16, helper_mem, out);
-    reply_to_translation(answer)
+    let helpers = Helpers {
+        helper16,
+        helper_mem,
+    };
+    block::translate(start, limit, halfwords, helpers, out).into()
 }
 
 impl From<Result<Placed, Refused>> for Reply {
@@ -82,24 +87,13 @@ pub extern "C" fn emuko_place(code: &[u8], store: &mut [u8], used: usize) -> Rep
     store::place(code, store, used).into()
 }
 
-fn number_of_kind(what: kind::WordKind) -> u32
-    ensures { result ≡ Numbered.number_of what }
-{
-    match what {
-        kind::WordKind::NotTaken => 0,
-        kind::WordKind::Straight => 1,
-        kind::WordKind::Ending => 2,
-        kind::WordKind::MemoryHelper => 3,
-    }
-}
-
 // What becomes of a word: 0 it is not taken, 1 the block goes on behind it, 2 it ends the block, 3 the memory helper does. A caller
 // that fetches a run halfword by halfword needs none behind a word that is not 1 (`needs_no_more`, crate agreement).
 #[unsafe(no_mangle)]
 pub extern "C" fn emuko_word_kind(instr: u32) -> u32
     ensures { result ≡ kind_number (kind instr) }
 {
-    number_of_kind(kind::word_kind(instr))
+    kind::word_kind(instr) as u32
 }
 
 // The entry in use that has the key; where there is none, an entry of zeros, which is not in use.
