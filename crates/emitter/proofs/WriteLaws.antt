@@ -1,6 +1,6 @@
 -- Laws of writing in a row, once over the bytes: what every proof of an emitting function cites, here and in the crates above.
-use Rattle.std.proofs.Common.{◌≡◌, refl, sym, ap, ◌∙◌, subst, List, [], ◌∷◌, ◌++◌, ℕ, suc, ◌+◌, ◌≤◌, add-zero, add-suc, suc-add, add_assoc}
-use Rattle.std.proofs.Common.{arith, eq-eqb, ne_eqb, length, set, take, drop, length-append, take-append-drop}
+use Rattle.std.proofs.Common.{◌≡◌, refl, sym, ap, ◌∙◌, List, [], ◌∷◌, ◌++◌, ℕ, suc, ◌+◌, add-zero, add-suc, suc-add, add_assoc}
+use Rattle.std.proofs.Common.{length, set, take, drop, length-append}
 use lib.Seq.{sets, sets-eq}
 use Rattle.emitter.specs.Written.{Wrote, Room}
 
@@ -28,23 +28,7 @@ pub ◌then◌ : {l m n : List ℕ} {a b c : ℕ} {xs ys : List ℕ} → Wrote l
     moved e f = cc
 
 infixr 20 ◌then◌
--- the same for `search`, which knows all the bytes zs and finds the first write: the rest of zs is still to be written
-pub chain : {l m n : List ℕ} {a b c : ℕ} {xs zs : List ℕ}
-    → Wrote l a xs m b → take (length xs) zs ≡ xs → Wrote m b (drop (length xs) zs) n c → Wrote l a zs n c
-chain {l = l} {n = n} {a = a} {c = c} {xs = xs} {zs = zs} p e q =
-    subst (λ (r : List ℕ). Wrote l a r n c)
-    (ap (λ (r : List ℕ). r ++ drop (length xs) zs) (sym e) ∙ take-append-drop (length xs) zs)
-    (p then q)
-
 -- the output in three parts: before the place, the bytes, behind them
 pub parts : {l m : List ℕ} {a b : ℕ} {xs : List ℕ}
     → Room l a (length xs) → Wrote l a xs m b → m ≡ take a l ++ xs ++ drop (a + length xs) l
 parts {l = l} {a = a} {xs = xs} h w = w.bytes ∙ sets-eq xs l a h.fits
-
--- room for two runs of bytes, for `omega`
-pub room_split : (l : List ℕ) (a : ℕ) (xs ys : List ℕ) → Room l a (length (xs ++ ys)) → a + (length xs + length ys) ≤ length l
-room_split l a xs ys h = rw length-append at h.fits
-
-pub ruleset rooms = (arith, room_split)
-
-pub ruleset writes = (none, ◌then◌, chain, eq-eqb, ne_eqb)

@@ -1,5 +1,5 @@
 -- Of funct7 only its class matters.
-use Rattle.std.proofs.Common.{◌≡◌, refl, ◌≢◌, Bool, true, false, cond, ℕ, zero, suc, ◌+◌, ◌*◌, ◌/◌, ◌%◌, ◌<◌, arith, ne_eqb, eqb}
+use Rattle.std.proofs.Common.{◌≡◌, refl, ◌≢◌, Bool, true, false, cond, ℕ, zero, suc, ◌+◌, ◌*◌, ◌/◌, ◌<◌, arith, ne_eqb, eqb}
 use Rattle.agreement.specs.Translation.Kind.{match, kind_of, kind_op, kind_op32, kind_op_imm, kind_op_imm32}
 use Rattle.agreement.proofs.Laws.Matches.{decide}
 use Rattle.kind.specs.Family.{class_of}
@@ -42,29 +42,3 @@ class_small s = go (eqb s 0x00) (eqb s 0x01) (eqb s 0x20) (eqb s 0x21)
     go false false true d = omega arith
     go false false false true = omega arith
     go false false false false = omega arith
-
--- the class by the lowest five bits and the two above them
-pub class_is : (s : ℕ) → s % 32 < 2 → s / 32 < 2 → 2 * (s / 32) + s % 32 ≡ class_of s
-class_is s low high =
-    decide (s / 32) 0
-    (λ h. decide (s % 32) 0
-    (λ l. let e : s ≡ 0x00 = omega (arith, h, l) in rw e refl)
-    (λ l. let e : s ≡ 0x01 = omega (arith, h, l, low) in rw e refl))
-    (λ h. decide (s % 32) 0
-    (λ l. let e : s ≡ 0x20 = omega (arith, h, l, high) in rw e refl)
-    (λ l. let e : s ≡ 0x21 = omega (arith, h, l, low, high) in rw e refl))
-
-other : (s : ℕ) → ((high low : ℕ) → high < 2 → low < 2 → s ≢ 32 * high + low) → 4 ≡ class_of s
-other s h =
-    rw (
-      ne_eqb s 0x00 (h 0 0 (omega arith) (omega arith)),
-      ne_eqb s 0x01 (h 0 1 (omega arith) (omega arith)),
-      ne_eqb s 0x20 (h 1 0 (omega arith) (omega arith)),
-      ne_eqb s 0x21 (h 1 1 (omega arith) (omega arith)),
-    ) refl
-
-pub other_by_low : (s : ℕ) → 1 < s % 32 → 4 ≡ class_of s
-other_by_low s more = other s (λ high low h l e. omega (arith, more, h, l, e))
-
-pub other_by_high : (s : ℕ) → 1 < s / 32 → 4 ≡ class_of s
-other_by_high s more = other s (λ high low h l e. omega (arith, more, h, l, e))

@@ -1,5 +1,5 @@
 -- The family of an opcode, tested at each class and funct3.
-use Rattle.std.proofs.Common.{◌≡◌, refl, sym, ap, ◌∙◌, ◌≢◌, Bool, ℕ, ◌+◌, ◌*◌, ◌/◌, ◌%◌, ◌^◌, ◌<◌, arith, ne_eqb, eq-eqb, T, eqb, eqb→eq}
+use Rattle.std.proofs.Common.{◌≡◌, refl, sym, ap, ◌∙◌, Bool, ℕ, ◌+◌, ◌*◌, ◌/◌, ◌^◌, ◌<◌, arith, T, eqb, eqb→eq}
 use native.Mathlib.Nat.{zero-div}
 use Rattle.agreement.specs.Riscv.Instruction.Instruction.{other}
 use Rattle.agreement.specs.Riscv.Fields.{funct3, funct7}

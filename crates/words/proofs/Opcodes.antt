@@ -1,5 +1,5 @@
 -- The match on the opcode gives every word what the definitions of crate agreement give it.
-use Rattle.std.proofs.Common.{◌≡◌, ℕ, ◌/◌, ◌%◌, ◌^◌, ◌<◌, ◌≢◌, [], refl, arith, ne_eqb}
+use Rattle.std.proofs.Common.{◌≡◌, ℕ, ◌/◌, ◌%◌, ◌^◌, ◌<◌, ◌≢◌, [], refl, ne_eqb}
 use lib.Pow.{mod-mod-pow}
 use Rattle.decode.specs.Decoded.{decoded}
 use Rattle.agreement.specs.Riscv.Fields.{opcode, funct3, rs1, rs2, funct7, funct6, bits, shamt5, shamt6}
