@@ -1,6 +1,8 @@
 -- The index of blocks (document 02, Q-4): what find, insert and empty answer and leave, on a list of entries.
-use Rattle.std.specs.Prelude.{Bool, true, false, not, cond, List, [], ◌∷◌, ℕ, suc, eqb}
-use Rattle.std.proofs.Math.Option.{Option, none, some}
+use Rattle.std.specs.Prelude.{Bool, not, cond, ◌&&◌, List, [], ◌∷◌, ℕ, eqb, map, Option}
+use Rattle.std.specs.List.{list_any, position_or_len}
+use Rattle.std.specs.List as Lists
+use Rattle.entry.specs.declared.Key.{Key}
 use Rattle.entry.specs.declared.Entry.{Entry}
 use Rattle.entry.specs.declared.NativeBlock.{NativeBlock}
 
@@ -18,58 +20,42 @@ abbrev pub is_in_use : Entry → Bool
 is_in_use e = not (free e)
 
 -- with that key; in use, with that key
-abbrev pub keyed : ℕ → ℕ → Entry → Bool
-keyed satp pc e = cond (eqb e.satp satp) (eqb e.pc pc) false
+abbrev pub keyed : Key → Entry → Bool
+keyed k e = eqb e.satp k.satp && eqb e.pc k.pc
 
-abbrev pub holds : ℕ → ℕ → Entry → Bool
-holds satp pc e = cond (is_in_use e) (keyed satp pc e) false
+abbrev pub holds : Key → Entry → Bool
+holds k e = is_in_use e && keyed k e
 
--- 2. Scans
+-- 2. The first entry that passes is changed; the others stay
 
--- some entry passes
-abbrev pub any : (Entry → Bool) → List Entry → Bool
-any p [] = false
-any p (e ∷ es) = cond (p e) true (any p es)
-
--- the first entry that passes
-abbrev pub first_that : (Entry → Bool) → List Entry → Option Entry
-first_that p [] = none
-first_that p (e ∷ es) = cond (p e) (some e) (first_that p es)
-
--- its index; the number of entries where none passes
-abbrev pub before : (Entry → Bool) → List Entry → ℕ
-before p [] = 0
-before p (e ∷ es) = cond (p e) 0 (suc (before p es))
-
--- the first entry that passes is changed; the others stay
 abbrev pub over_first : (Entry → Bool) → (Entry → Entry) → List Entry → List Entry
 over_first p f [] = []
 over_first p f (e ∷ es) = cond (p e) (f e ∷ es) (e ∷ over_first p f es)
 
 -- 3. Find: the first entry in use that has the key, or none, which has no number
 
-abbrev pub find : List Entry → ℕ → ℕ → Option Entry
-find es satp pc = first_that (holds satp pc) es
+abbrev pub find : List Entry → Key → Option Entry
+find es k = Lists.find (holds k) es
 
 -- 4. Insert: over the first entry in use that has the key, where there is one; a new key takes the first entry not in use
 
-abbrev pub taken : List Entry → ℕ → ℕ → Entry → Bool
-taken es satp pc = cond (any (holds satp pc) es) (holds satp pc) free
+abbrev pub taken : List Entry → Key → Entry → Bool
+taken es k = cond (list_any (holds k) es) (holds k) free
 
 -- the mark of an entry in use stays, and one that was not in use gets the mark 1
 abbrev pub mark_of : Entry → ℕ
 mark_of e = cond (free e) 1 e.in_use
 
 -- all of the entry but its mark is the new one's
-abbrev pub renewed : ℕ → ℕ → NativeBlock → Entry → Entry
-renewed satp pc b e = record { satp = satp; pc = pc; block = b; in_use = mark_of e }
+abbrev pub renewed : Key → NativeBlock → Entry → Entry
+renewed k b e = record { satp = k.satp; pc = k.pc; block = b; in_use = mark_of e }
 
-abbrev pub insert : List Entry → ℕ → ℕ → NativeBlock → List Entry
-insert es satp pc b = over_first (taken es satp pc) (renewed satp pc b) es
+abbrev pub insert : List Entry → Key → NativeBlock → List Entry
+insert es k b = over_first (taken es k) (renewed k b) es
 
 -- the number, 0 where the entry was put, and its value, the index; 8 where the key is new and every entry is in use
-abbrev pub insert_answer : List Entry → ℕ → ℕ → ℕ × List ℕ
-insert_answer es satp pc = cond (any (taken es satp pc) es) (0, before (taken es satp pc) es ∷ []) (8, [])
+abbrev pub insert_answer : List Entry → Key → ℕ × List ℕ
+insert_answer es k = cond (list_any (taken es k) es) (0, position_or_len (taken es k) es ∷ []) (8, [])
 
 -- 5. Empty: every mark is cleared, and nothing else
 
@@ -77,5 +63,4 @@ abbrev pub freed : Entry → Entry
 freed e = record { satp = e.satp; pc = e.pc; block = e.block; in_use = 0 }
 
 abbrev pub empty : List Entry → List Entry
-empty [] = []
-empty (e ∷ es) = freed e ∷ empty es
+empty es = map freed es

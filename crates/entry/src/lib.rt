@@ -4,9 +4,16 @@
 ghost use Rattle.std.specs.Prelude.{◌≡◌};
 ghost use Rattle.entry.specs.Index as Index;
 
+// What a block is found by: the page table in use and the address of its first instruction.
+#[derive(Clone, Copy, PartialEq, Eq)]
+pub struct Key {
+    pub satp: u64,
+    pub pc: u64,
+}
+
 // `NativeBlock` of src/hart.rs: where a block stands in the code store, and how many guest instructions it has. Nothing is range-checked.
 #[repr(C)]
-#[derive(Clone, Copy)]
+#[derive(Clone, Copy, PartialEq, Eq)]
 pub struct NativeBlock {
     pub offset: usize,
     pub count: u32,
@@ -14,7 +21,7 @@ pub struct NativeBlock {
 
 // A block under its key. The mark is a number, so that whatever a caller of another language puts there is one: 0 is not in use.
 #[repr(C)]
-#[derive(Clone, Copy)]
+#[derive(Clone, Copy, PartialEq, Eq)]
 pub struct Entry {
     pub satp: u64,
     pub pc: u64,
@@ -22,18 +29,35 @@ pub struct Entry {
     pub in_use: u32,
 }
 
-// An entry of zeros, which is not in use.
-pub fn blank() -> Entry
-    ensures { result ≡ Index.blank }
-{
-    let block = NativeBlock {
-        offset: 0,
-        count: 0,
-    };
-    Entry {
-        satp: 0,
-        pc: 0,
-        block,
-        in_use: 0,
+// An entry of zeros, which is not in use. Not derived: a derived one has no clause that names the specification's entry.
+impl Default for Entry {
+    ghost is_default = { λ e. e ≡ Index.blank };
+
+    fn default() -> Entry {
+        let block = NativeBlock {
+            offset: 0,
+            count: 0,
+        };
+        Entry {
+            satp: 0,
+            pc: 0,
+            block,
+            in_use: 0,
+        }
+    }
+}
+
+impl Entry {
+    pub fn is_in_use(&self) -> bool
+        ensures { result ≡ Index.is_in_use self.now }
+    {
+        self.in_use != 0
+    }
+
+    // Whether it is in use and has the key.
+    pub fn holds(&self, key: Key) -> bool
+        ensures { result ≡ Index.holds key self.now }
+    {
+        self.is_in_use() && self.satp == key.satp && self.pc == key.pc
     }
 }

@@ -1,39 +1,27 @@
--- Marks are being cleared, and entry i is next: those before it are done, and those from it on are still to be.
-use Rattle.std.proofs.Common.{◌≡◌, refl, sym, ap, ◌∙◌, List, [], ◌∷◌, ℕ, zero, suc, ◌+◌, ◌<◌, ◌≤◌, not-suc-le-zero, le_of_suc-le-suc}
-use Rattle.std.proofs.Common.{add-one, arith, length, get_or, set, length-set}
-use Rattle.entry.specs.Index.{freed, empty}
+-- Marks are being cleared, and entry i is next: those before it are done, and the others are as they were.
+use Rattle.std.proofs.Common.{◌≡◌, sym, ap, ◌∙◌, List, [], ◌∷◌, ◌++◌, ℕ, ◌+◌, ◌<◌, map, length, take, drop, set, get_or, arith, add-zero}
+use Rattle.std.proofs.lemmas.List.{map_more, drop-set-lt, get_or-drop}
+use Rattle.std.proofs.lemmas.Grind.{take-set_at, drop_more_same}
+use Rattle.entry.specs.Index.{freed}
 use Rattle.entry.specs.declared.Entry.{Entry}
 
--- the first i as they are, and the others with their marks cleared
-abbrev pub behind : ℕ → List Entry → List Entry
-behind zero zs = empty zs
-behind (suc i) [] = []
-behind (suc i) (z ∷ zs) = z ∷ behind i zs
+-- xs is what was lent, and the entries are now ys
+pub record Cleared (xs ys : List Entry) (i : ℕ) : Type 0 where
+  pub cleared : take i ys ≡ map freed (take i xs)
+  pub rest : drop i ys ≡ drop i xs
 
-behind_all : (zs : List Entry) → behind (length zs) zs ≡ zs
-behind_all [] = refl
-behind_all (z ∷ zs) = ap (λ (l : List Entry). z ∷ l) (behind_all zs)
+first : (xs : List Entry) (i : ℕ) (d : Entry) → get_or (drop i xs) 0 d ≡ get_or xs i d
+first xs i d = get_or-drop i xs 0 d ∙ ap (λ (n : ℕ). get_or xs n d) (add-zero i)
 
-behind-suc : (zs : List Entry) (i : ℕ) (d : Entry) → i < length zs → behind (suc i) (set zs i (freed (get_or zs i d))) ≡ behind i zs
-behind-suc [] i d h = absurd (not-suc-le-zero h)
-behind-suc (z ∷ zs) zero d h = refl
-behind-suc (z ∷ zs) (suc i) d h = ap (λ (l : List Entry). z ∷ l) (behind-suc zs i d (le_of_suc-le-suc h))
-
--- ys is what was lent, and the entries are now zs
-pub record Cleared (ys zs : List Entry) (i : ℕ) : Type 0 where
-  pub le : i ≤ length ys
-  pub same : length zs ≡ length ys
-  pub entries : behind i zs ≡ empty ys
-
-pub one_cleared : (ys zs : List Entry) (i : ℕ) (d : Entry) → Cleared ys zs i → i < length zs
-    → Cleared ys (set zs i (freed (get_or zs i d))) (i + 1)
-one_cleared ys zs i d s h = record {
-  le = omega (arith, h, s.same);
-  same = length-set zs i (freed (get_or zs i d)) ∙ s.same;
-  entries = ap (λ (k : ℕ). behind k (set zs i (freed (get_or zs i d)))) (add-one i) ∙ behind-suc zs i d h ∙ s.entries;
-}
-
-pub all_cleared : (ys zs : List Entry) (i : ℕ) → Cleared ys zs i → length zs ≤ i → zs ≡ empty ys
-all_cleared ys zs i s h =
-    let all : length zs ≡ i = omega (arith, s.same, s.le, h) in
-    sym (behind_all zs) ∙ ap (λ (k : ℕ). behind k zs) all ∙ s.entries
+pub one_cleared : (xs ys : List Entry) (i : ℕ) (d : Entry) → i < length xs → length ys ≡ length xs → Cleared xs ys i
+    → Cleared xs (set ys i (freed (get_or ys i d))) (i + 1)
+one_cleared xs ys i d h l c =
+    let e : get_or ys i d ≡ get_or xs i d = sym (first ys i d) ∙ ap (λ (zs : List Entry). get_or zs 0 d) c.rest ∙ first xs i d in
+    record {
+      cleared =
+          take-set_at ys i (i + 1) (freed (get_or ys i d)) (omega arith) (omega arith)
+          ∙ ap (λ (zs : List Entry). zs ++ freed (get_or ys i d) ∷ []) c.cleared
+          ∙ ap (λ (z : Entry). map freed (take i xs) ++ freed z ∷ []) e
+          ∙ sym (map_more freed xs i d h);
+      rest = drop-set-lt (i + 1) ys i (freed (get_or ys i d)) (omega arith) ∙ drop_more_same ys xs i c.rest;
+    }

@@ -1,33 +1,37 @@
--- What the code of insert learns by its two comparisons with the length.
-use Rattle.std.proofs.Common.{◌≡◌, sym, ap, ◌∙◌, Bool, false, cond, List, [], ◌∷◌, ℕ, ◌<◌, ◌≤◌, arith, length, set, get_or}
-use Rattle.entry.specs.Index.{holds, free, any, before, taken, renewed}
+-- What the code of insert learns from its scans.
+use Rattle.std.specs.Prelude.{Option, Some, None, Ok, Err}
+use Rattle.std.specs.List.{list_any, position}
+use Rattle.std.proofs.Common.{◌≡◌, sym, ap, ◌∙◌, Bool, false, cond, List, [], ◌∷◌, ℕ, set, get_or}
+use Rattle.entry.specs.Index.{holds, free, taken, renewed}
+use Rattle.entry.specs.declared.Key.{Key}
 use Rattle.entry.specs.declared.Entry.{Entry}
 use Rattle.entry.specs.declared.NativeBlock.{NativeBlock}
-use Rattle.entry.proofs.Scans.{some_passes, none_passes, set_over, over_none}
+use Rattle.entry.proofs.Scans.{found_at, found_nowhere, set_over, over_none}
 use Rattle.index.specs.Answers.{Inserts}
-use Rattle.index.specs.declared.Inserting.TheVariants.{At, Full}
+use Rattle.index.specs.declared.Full.{Full}
 
-module _ (es : List Entry) (satp pc : ℕ) where
-  pub slot_key : (i : ℕ) → i ≡ before (holds satp pc) es → i < length es → i ≡ before (taken es satp pc) es
-  slot_key i e h =
-      e ∙ sym (ap (λ (t : Bool). before (cond t (holds satp pc) free) es) (some_passes (holds satp pc) es (omega (arith, e, h))))
+module _ (es : List Entry) (k : Key) where
+  pub slot_held : (i : ℕ) → Some i ≡ position (holds k) es → Some i ≡ position (taken es k) es
+  slot_held i e =
+      e ∙ sym (ap (λ (t : Bool). position (cond t (holds k) free) es) (found_at (holds k) es i (sym e)).passes)
 
-  pub slot_free : (i j : ℕ) → i ≡ before (holds satp pc) es → length es ≤ i → j ≡ before free es → j ≡ before (taken es satp pc) es
-  slot_free i j e h f =
-      f ∙ sym (ap (λ (t : Bool). before (cond t (holds satp pc) free) es) (none_passes (holds satp pc) es (omega (arith, e, h))))
+  pub slot_free : (r : Option ℕ) → None ≡ position (holds k) es → r ≡ position free es → r ≡ position (taken es k) es
+  slot_free r e f = f ∙ sym (ap (λ (t : Bool). position (cond t (holds k) free) es) (found_nowhere (holds k) es (sym e)))
 
-  module _ (b : NativeBlock) (i : ℕ) (e : i ≡ before (taken es satp pc) es) where
-    pub put_in : (d r : Entry) → r ≡ renewed satp pc b (get_or es i d) → i < length es → Inserts es (set es i r) satp pc b (At i)
-    put_in d r f h =
-        let p : Entry → Bool = taken es satp pc in
+  module _ (b : NativeBlock) where
+    pub put_in : (o : Option ℕ) (i : ℕ) (d r : Entry) → o ≡ Some i → o ≡ position (taken es k) es → r ≡ renewed k b (get_or es i d)
+        → Inserts es (set es i r) k b (Ok i)
+    put_in o i d r n e f =
+        let p : Entry → Bool = taken es k in
+        let a = found_at p es i (sym e ∙ n) in
         record {
-          answers = rw (some_passes p es (omega (arith, e, h))) (ap (λ (k : ℕ). (0, k ∷ [])) e);
+          answers = rw a.passes (ap (λ (j : ℕ). (0, j ∷ [])) a.first);
           leaves =
-              ap (set es i) f ∙ ap (λ (k : ℕ). set es k (renewed satp pc b (get_or es k d))) e ∙ set_over p (renewed satp pc b) d es;
+              ap (set es i) f ∙ ap (λ (j : ℕ). set es j (renewed k b (get_or es j d))) a.first ∙ set_over p (renewed k b) d es;
         }
 
-    pub put_off : length es ≤ i → Inserts es es satp pc b Full
-    put_off h =
-        let p : Entry → Bool = taken es satp pc in
-        let n : any p es ≡ false = none_passes p es (omega (arith, e, h)) in
-        record { answers = rw n; leaves = sym (over_none p (renewed satp pc b) es n) }
+    pub put_off : (o : Option ℕ) (r : Full) → o ≡ None → o ≡ position (taken es k) es → Inserts es es k b (Err r)
+    put_off o r n e =
+        let p : Entry → Bool = taken es k in
+        let a : list_any p es ≡ false = found_nowhere p es (sym e ∙ n) in
+        record { answers = rw a; leaves = sym (over_none p (renewed k b) es a) }

@@ -1,142 +1,77 @@
-// The index of blocks (document 02, Q-4): a caller lends a slice of entries. Functions over the slice are thin and call functions on
-// values.
+// The index of blocks (document 02, Q-4): a caller lends a slice of entries.
 #![tactic(auto)]
 
 ghost use Rattle.std.specs.Prelude.{◌≡◌};
-ghost use Rattle.entry.specs.Index.{holds, before, taken, mark_of, renewed};
+ghost use Rattle.std.specs.List.{position};
+ghost use Rattle.entry.specs.Index.{taken, renewed};
 ghost use Rattle.entry.specs.Index as Index;
-ghost use Rattle.index.specs.Answers.{meets, Finds, Inserts, Empties};
+ghost use Rattle.index.specs.Answers.{Finds, Inserts, Empties};
 
-use entry::{Entry, NativeBlock};
+use entry::{Entry, Key, NativeBlock};
+use store::NativeCodeCache;
 
-#[derive(Clone, Copy)]
-pub enum Found {
-    Shown { entry: Entry },
-    Nothing,
-}
-
-// Document 02, Q-4: number 8 where the key is new and every entry is in use.
-#[derive(Clone, Copy)]
-pub enum Inserting {
-    At { index: usize },
-    Full,
-}
-
-// What a scan looks for: the key, in use, or an entry that is not in use.
-#[derive(Clone, Copy)]
-pub enum Wanted {
-    Key { satp: u64, pc: u64 },
-    Free,
-}
-
-fn holds_key(e: Entry, satp: u64, pc: u64) -> bool
-    ensures { result ≡ holds satp pc e }
-{
-    if e.in_use == 0 {
-        return false;
-    }
-    if e.satp != satp {
-        return false;
-    }
-    e.pc == pc
-}
-
-fn is_wanted(e: Entry, wanted: Wanted) -> bool
-    ensures { result ≡ meets wanted e }
-{
-    match wanted {
-        Wanted::Key { satp, pc } => holds_key(e, satp, pc),
-        Wanted::Free => e.in_use == 0,
-    }
-}
-
-// The index of the first entry that is wanted; the number of entries where there is none.
-fn first(entries: &[Entry], wanted: Wanted) -> usize
-    ensures { result ≡ before (meets wanted) entries.now }
-{
-    let mut i = 0;
-    while i < entries.len() {
-        if is_wanted(entries[i], wanted) {
-            return i;
-        }
-        i += 1;
-    }
-    i
-}
+// Document 02, Q-4, number 8: the key is new and every entry is in use.
+#[derive(Clone, Copy, PartialEq, Eq)]
+pub struct Full;
 
 // The first entry in use that has the key.
-pub fn find(entries: &[Entry], satp: u64, pc: u64) -> Found
-    ensures { Finds entries.now satp pc result }
+pub fn find(entries: &[Entry], key: Key) -> Option<Entry>
+    ensures { Finds entries.now key result }
 {
-    let index = first(entries, Wanted::Key { satp, pc });
-    if index < entries.len() {
-        return Found::Shown {
-            entry: entries[index],
-        };
-    }
-    Found::Nothing
+    entries.iter().copied().find(|e| e.holds(key))
 }
 
-// The index of the entry that a block with this key goes to; the number of entries where there is none.
-fn slot_for(entries: &[Entry], satp: u64, pc: u64) -> usize
-    ensures { result ≡ before (taken entries.now satp pc) entries.now }
+// The index of the first entry in use that has the key.
+fn held(entries: &[Entry], key: Key) -> Option<usize>
+    ensures { result ≡ position (Index.holds key) entries.now }
 {
-    let index = first(entries, Wanted::Key { satp, pc });
-    if index < entries.len() {
-        return index;
-    }
-    first(entries, Wanted::Free)
+    entries.iter().position(|e| e.holds(key))
 }
 
-// The mark of an entry that a block goes to.
-fn mark_of(old: Entry) -> u32
-    ensures { result ≡ mark_of old }
+// The index of the first entry that is not in use.
+fn vacant(entries: &[Entry]) -> Option<usize>
+    ensures { result ≡ position Index.free entries.now }
 {
-    if old.in_use == 0 {
-        return 1;
-    }
-    old.in_use
+    entries.iter().position(|e| !e.is_in_use())
 }
 
-// The entry with a block in the place of another.
-fn renew(old: Entry, satp: u64, pc: u64, block: NativeBlock) -> Entry
-    ensures { result ≡ renewed satp pc block old }
+// The index of the entry that a block with this key goes to.
+fn slot_for(entries: &[Entry], key: Key) -> Option<usize>
+    ensures { result ≡ position (taken entries.now key) entries.now }
 {
-    let in_use = mark_of(old);
+    match held(entries, key) {
+        Some(index) => Some(index),
+        None => vacant(entries),
+    }
+}
+
+// The entry with a block in the place of another: a mark that is not 0 stays, and 0 becomes 1.
+fn renew(old: Entry, key: Key, block: NativeBlock) -> Entry
+    ensures { result ≡ renewed key block old }
+{
     Entry {
-        satp,
-        pc,
+        satp: key.satp,
+        pc: key.pc,
         block,
-        in_use,
+        in_use: old.in_use.max(1),
     }
 }
 
 // Over the entry in use that has the key, where there is one; a new key takes the first entry not in use.
-pub fn insert(entries: &mut [Entry], satp: u64, pc: u64, block: NativeBlock) -> Inserting
-    ensures { Inserts entries.old entries.new satp pc block result }
+pub fn insert(entries: &mut [Entry], key: Key, block: NativeBlock) -> Result<usize, Full>
+    ensures { Inserts entries.old entries.new key block result }
 {
-    let index = slot_for(entries, satp, pc);
-    if index < entries.len() {
-        entries[index] = renew(entries[index], satp, pc, block);
-        return Inserting::At { index };
-    }
-    Inserting::Full
-}
-
-fn clear_marks(entries: &mut [Entry])
-    ensures { entries.new ≡ Index.empty entries.old }
-{
-    let mut k = 0;
-    while k < entries.len() {
-        entries[k].in_use = 0;
-        k += 1;
-    }
+    let index = slot_for(entries, key).ok_or(Full)?;
+    entries[index] = renew(entries[index], key, block);
+    Ok(index)
 }
 
 // Every mark is cleared, and the code store's mark returns to 0. The store's bytes are not lent, and stay.
-pub fn empty(entries: &mut [Entry], cache: &mut store::NativeCodeCache)
+pub fn empty(entries: &mut [Entry], cache: &mut NativeCodeCache)
     ensures { Empties entries.old entries.new cache.new.used }
 {
-    clear_marks(entries);
-    store::clear(cache);
+    for e in entries.iter_mut() {
+        e.in_use = 0;
+    }
+    cache.clear();
 }

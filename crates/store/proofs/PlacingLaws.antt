@@ -5,9 +5,11 @@ use Rattle.agreement.specs.Translation.Place as Definition
 use Rattle.agreement.specs.Translation.Place.{round_up, place, placing_numbered, store_after, mark_after}
 use Rattle.agreement.specs.Translation.Place.Placing.{placed, beyond, full}
 use Rattle.agreement.proofs.Laws.Values.{second_value, differ}
-use Rattle.store.specs.Places.{Places, Allocates, answered, mark_of}
-use Rattle.store.specs.declared.Placing.{Placing}
-use Rattle.store.specs.declared.Placing.TheVariants.{Placed, Beyond, Full}
+use Rattle.std.specs.Prelude.{Result, Ok, Err}
+use Rattle.store.specs.Places.{Places, Allocates, answered}
+use Rattle.store.specs.declared.Placed.{Placed}
+use Rattle.store.specs.declared.Refused.{Refused}
+use Rattle.store.specs.declared.Refused.TheVariants.{Beyond, Full}
 
 -- 1. The definition, by its tests in their order
 
@@ -27,7 +29,7 @@ rounded used = omega arith
 
 -- 2. The answers
 
-named : {code before after : List ℕ} {used : ℕ} {r : Placing} (p : Definition.Placing)
+named : {code before after : List ℕ} {used : ℕ} {r : Result Placed Refused} (p : Definition.Placing)
     → place (length code) (length before) used ≡ p → answered r ≡ placing_numbered p → after ≡ store_after p code before
     → Places code used before after r
 named {code = code} {before = before} p e a l = record {
@@ -35,12 +37,12 @@ named {code = code} {before = before} p e a l = record {
   leaves = l ∙ ap (λ (q : Definition.Placing). store_after q code before) (sym e);
 }
 
-pub is_beyond : (code store : List ℕ) (used : ℕ) → length store < used → Places code used store store Beyond
+pub is_beyond : (code store : List ℕ) (used : ℕ) → length store < used → Places code used store store (Err Beyond)
 unfolding tested placing_numbered store_after
 is_beyond code store used h = named beyond (by_tests (length code) (length store) used (lt-ltb (length store) used h) refl) refl refl
 
 pub is_full : (code store : List ℕ) (used : ℕ) → used ≤ length store → length store < (used + (4 - used % 4) % 4) + length code
-    → Places code used store store Full
+    → Places code used store store (Err Full)
 unfolding tested placing_numbered store_after
 is_full code store used h k =
     let over : length store < round_up used + length code = omega (arith, k, rounded used) in
@@ -48,7 +50,7 @@ is_full code store used h k =
 
 pub is_placed : (code store after : List ℕ) (used offset mark : ℕ) → offset ≡ used + (4 - used % 4) % 4 → mark ≡ offset + length code
     → used ≤ length store → mark ≤ length store → after ≡ take offset store ++ (code ++ drop (offset + length code) store)
-    → Places code used store after (Placed offset mark)
+    → Places code used store after (Ok (record { offset = offset; mark = mark }))
 unfolding tested placing_numbered store_after
 is_placed code store after used offset mark o m h k l =
     let e : offset ≡ round_up used = o ∙ rounded used in
@@ -62,22 +64,25 @@ is_placed code store after used offset mark o m h k l =
 
 -- 3. The mark afterwards
 
--- the same number and values leave the same mark: the second value, or the old one
-same_mark : (p : Definition.Placing) (r : Placing) (used : ℕ) → answered r ≡ placing_numbered p → mark_of used r ≡ mark_after p used
+-- where code was placed, the mark is the second value
+pub mark_placed : (p : Definition.Placing) (r : Placed) (used : ℕ) → answered (Ok r) ≡ placing_numbered p → r.mark ≡ mark_after p used
 unfolding placing_numbered mark_after
-same_mark (placed offset mark) (Placed o m) used e = second_value e
-same_mark beyond Beyond used e = refl
-same_mark full Full used e = refl
-same_mark (placed offset mark) Beyond used e = differ e (λ n. omega arith)
-same_mark (placed offset mark) Full used e = differ e (λ n. omega arith)
-same_mark beyond (Placed o m) used e = differ e (λ n. omega arith)
-same_mark beyond Full used e = differ e (λ n. omega arith)
-same_mark full (Placed o m) used e = differ e (λ n. omega arith)
-same_mark full Beyond used e = differ e (λ n. omega arith)
+mark_placed (placed offset mark) r used e = second_value e
+mark_placed beyond r used e = differ e (λ n. omega arith)
+mark_placed full r used e = differ e (λ n. omega arith)
 
-pub moved : {code before after : List ℕ} {used mark : ℕ} {r : Placing} → Places code used before after r → mark ≡ mark_of used r
-    → Allocates code used mark before after r
-moved {used = used} {r = r} h e = record {
-  places = h;
-  moves = e ∙ same_mark _ r used h.answers;
-}
+-- where it was refused, the mark stays
+pub mark_kept : (p : Definition.Placing) (r : Refused) (used : ℕ) → answered (Err r) ≡ placing_numbered p → used ≡ mark_after p used
+unfolding placing_numbered mark_after
+mark_kept (placed offset mark) Beyond used e = differ e (λ n. omega arith)
+mark_kept (placed offset mark) Full used e = differ e (λ n. omega arith)
+mark_kept beyond r used e = refl
+mark_kept full r used e = refl
+
+pub moves : {code before after : List ℕ} {used : ℕ} {r : Placed} → Places code used before after (Ok r)
+    → Allocates code used r.mark before after (Ok r)
+moves {used = used} {r = r} h = record { places = h; moves = mark_placed _ r used h.answers }
+
+pub keeps : {code before after : List ℕ} {used : ℕ} {e : Refused} → Places code used before after (Err e)
+    → Allocates code used used before after (Err e)
+keeps {used = used} {e = e} h = record { places = h; moves = mark_kept _ e used h.answers }

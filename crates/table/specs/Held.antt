@@ -1,7 +1,13 @@
 -- What a function on a held index promises: the first n entries change as the index's own function says, and the others stay.
-use Rattle.std.specs.Prelude.{◌≡◌, List, ℕ, take, drop}
+use Rattle.std.specs.Prelude.{◌≡◌, List, take, drop}
 use Rattle.entry.specs.declared.Entry.{Entry}
+use Rattle.table.specs.declared.Table.{Table}
 
-pub record AtFront (n : ℕ) (Changes : List Entry → List Entry → Type 0) (es es' : List Entry) : Type 0 where
-  pub front : Changes (take n es) (take n es')
-  pub rest : drop n es' ≡ drop n es
+-- the index: the first n entries of the array
+abbrev pub entries_of : Table → List Entry
+entries_of t = take t.n t.entries
+
+pub record AtFront (t t' : Table) (Changes : List Entry → List Entry → Type 0) : Type 0 where
+  pub size : t'.n ≡ t.n
+  pub front : Changes (entries_of t) (entries_of t')
+  pub rest : drop t.n t'.entries ≡ drop t.n t.entries

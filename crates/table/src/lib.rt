@@ -1,60 +1,77 @@
-// An index of up to 64 entries that is held by value, for a program that keeps one between calls: the first n entries of the array are
-// lent to the index's functions.
+// An index of up to 64 entries for a program that keeps one between calls: the first n entries of the array are lent to the index's
+// functions.
 #![tactic(auto)]
 
-ghost use Rattle.std.specs.Prelude.{◌≤◌, take};
-ghost use Rattle.index.specs.Answers.{Finds, Inserts, Empties};
-ghost use Rattle.table.specs.Held.{AtFront};
+ghost use Rattle.std.specs.Prelude.{◌≤◌};
+
+use entry::{Entry, Key, NativeBlock};
+use index::Full;
+use store::NativeCodeCache;
 
 #[derive(Clone, Copy)]
-pub struct Inserted {
-    pub entries: [entry::Entry; 64],
-    pub inserting: index::Inserting,
+pub struct Table {
+    pub entries: [Entry; 64],
+    pub n: usize,
+    ghost within: { n ≤ 64 },
 }
 
-#[derive(Clone, Copy)]
-pub struct Emptied {
-    pub entries: [entry::Entry; 64],
-    pub used: usize,
-}
+impl Table {
+    ghost use Rattle.std.specs.Prelude.{◌≡◌, replicate, set};
+    ghost use Rattle.entry.specs.Index as Index;
+    ghost use Rattle.index.specs.Answers.{Finds, Inserts, Empties};
+    ghost use Rattle.table.specs.Held.{entries_of, AtFront};
 
-// The first entry in use of the first n that has the key.
-pub fn find(entries: [entry::Entry; 64], n: usize, satp: u64, pc: u64) -> index::Found
-    requires { n ≤ 64 }
-    ensures { Finds (take n entries) satp pc result }
-{
-    index::find(&entries[..n], satp, pc)
-}
-
-// The first n entries take the block, or are full; the others stay.
-pub fn insert(
-    entries: [entry::Entry; 64],
-    n: usize,
-    satp: u64,
-    pc: u64,
-    block: entry::NativeBlock,
-) -> Inserted
-    requires { n ≤ 64 }
-    ensures { AtFront n (λ es es'. Inserts es es' satp pc block result.inserting) entries result.entries }
-{
-    let mut held = entries;
-    let inserting = index::insert(&mut held[..n], satp, pc, block);
-    Inserted {
-        entries: held,
-        inserting,
+    // n entries of zeros.
+    pub fn new(n: usize) -> Table
+        requires { n ≤ 64 }
+        ensures { entries_of result ≡ replicate n Index.blank }
+    {
+        Table {
+            entries: [Entry::default(); 64],
+            n,
+        }
     }
-}
 
-// The marks of the first n entries are cleared. The store's mark is lent beside them, in a record that is made for it.
-pub fn empty(entries: [entry::Entry; 64], n: usize, used: usize) -> Emptied
-    requires { n ≤ 64 }
-    ensures { AtFront n (λ es es'. Empties es es' result.used) entries result.entries }
-{
-    let mut held = entries;
-    let mut cache = store::NativeCodeCache { used };
-    index::empty(&mut held[..n], &mut cache);
-    Emptied {
-        entries: held,
-        used: cache.used,
+    // The first n entries.
+    pub fn entries(&self) -> &[Entry]
+        ensures { result.now ≡ entries_of self.now }
+    {
+        &self.entries[..self.n]
+    }
+
+    // The first entry in use of the first n that has the key.
+    pub fn find(&self, key: Key) -> Option<Entry>
+        ensures { Finds (entries_of self.now) key result }
+    {
+        index::find(self.entries(), key)
+    }
+
+    // The entry takes the place of that slot's, where the slot is one of the n.
+    pub fn set(&mut self, slot: usize, entry: Entry)
+        ensures { AtFront self.old self.new (λ es es'. es' ≡ set es slot entry) }
+    {
+        if slot < self.n {
+            self.entries[slot] = entry;
+        }
+    }
+
+    // The first n entries take the block, or are full; the others stay. Here and in `empty` the array is copied and stored back: where the
+    // struct has a ghost field, its array can't be lent from behind a `&mut`.
+    pub fn insert(&mut self, key: Key, block: NativeBlock) -> Result<usize, Full>
+        ensures { AtFront self.old self.new (λ es es'. Inserts es es' key block result) }
+    {
+        let mut entries = self.entries;
+        let answer = index::insert(&mut entries[..self.n], key, block);
+        self.entries = entries;
+        answer
+    }
+
+    // The marks of the first n entries are cleared, and the store's mark returns to 0.
+    pub fn empty(&mut self, cache: &mut NativeCodeCache)
+        ensures { AtFront self.old self.new (λ es es'. Empties es es' cache.new.used) }
+    {
+        let mut entries = self.entries;
+        index::empty(&mut entries[..self.n], cache);
+        self.entries = entries;
     }
 }

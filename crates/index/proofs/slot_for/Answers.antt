@@ -1,8 +1,8 @@
-use Rattle.index.proofs.Slots.{slot_key, slot_free}
+use Rattle.index.proofs.Slots.{slot_held, slot_free}
 use Rattle.index.proofs.slot_for.Goals as goal
 
-pub returns-then-index-entries : goal.returns-then-index-entries
-returns-then-index-entries c = slot_key _ _ _ _ c.first-index.ensures c.if-index-entries.true
+pub returns-in-Some : goal.returns-in-Some
+returns-in-Some c = slot_held c.args.entries.now c.args.key _ c.in-Some.ensures
 
-pub returns : goal.returns
-returns c = slot_free _ _ _ _ _ c.first-index.ensures c.if-index-entries.false c.first.ensures
+pub returns-in-None : goal.returns-in-None
+returns-in-None c = slot_free c.args.entries.now c.args.key _ c.in-None.ensures c.vacant.ensures
