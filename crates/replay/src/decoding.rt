@@ -1,55 +1,29 @@
 // D lines: the immediates and fields of a word.
-ghost use Rattle.std.specs.Prelude.{◌≡◌};
+ghost use Rattle.std.specs.Prelude.{◌≡◌, is_some};
 ghost use Rattle.requests.specs.Lines.{is_decoding};
 
 use crate::output::Output;
 use std::io::Write;
 
-fn print_unsigned<W: Write>(n: u64, to: &mut Output<W>) {
-    to.print(format_args!(" {n}"));
-}
-
-// A two's complement number of 64 bits.
-fn print_signed<W: Write>(n: u64, to: &mut Output<W>) {
-    if n < 0x8000_0000_0000_0000 {
-        to.print(n);
-    } else {
-        let below = 0xFFFF_FFFF_FFFF_FFFF - n + 1;
-        to.print(format_args!("-{below}"));
-    }
-}
-
-fn print_immediates<W: Write>(word: u32, to: &mut Output<W>) {
-    print_signed(decode::imm_i(word), to);
-    to.write(b" ");
-    print_signed(decode::imm_s(word), to);
-    to.write(b" ");
-    print_signed(decode::imm_b(word), to);
-    to.write(b" ");
-    print_signed(decode::imm_u(word), to);
-    to.write(b" ");
-    print_signed(decode::imm_j(word), to);
-}
-
-fn print_fields<W: Write>(word: u32, to: &mut Output<W>) {
+fn print<W: Write>(word: u32, to: &mut Output<W>) {
+    let i = decode::imm_i(word).cast_signed();
+    let s = decode::imm_s(word).cast_signed();
+    let b = decode::imm_b(word).cast_signed();
+    let u = decode::imm_u(word).cast_signed();
+    let j = decode::imm_j(word).cast_signed();
+    to.print(format_args!("{i} {s} {b} {u} {j} "));
     let d = decode::decode32(word);
-    print_unsigned(d.opcode as u64, to);
-    print_unsigned(d.rd as u64, to);
-    print_unsigned(d.funct3 as u64, to);
-    print_unsigned(d.rs1 as u64, to);
-    print_unsigned(d.rs2 as u64, to);
-    print_unsigned(d.funct7 as u64, to);
-    print_unsigned(d.imm12 as u64, to);
+    to.print(format_args!(
+        "{} {} {} {} {} {} {}",
+        d.opcode, d.rd, d.funct3, d.rs1, d.rs2, d.funct7, d.imm12
+    ));
 }
 
-// Writes the reply to a request; whether the line is one.
-pub fn reply<W: Write>(line: &[u8], to: &mut Output<W>) -> bool
-    ensures { result ≡ is_decoding line.now }
+// Writes the reply to a request; there is none to a line that is no request.
+pub fn reply<W: Write>(line: &[u8], to: &mut Output<W>) -> Option<()>
+    ensures { is_some result ≡ is_decoding line.now }
 {
-    let asked = requests::read_decoding(line);
-    if asked.good {
-        print_immediates(asked.word, to);
-        print_fields(asked.word, to);
-    }
-    asked.good
+    let word = requests::read_decoding(line)?;
+    print(word, to);
+    Some(())
 }

@@ -31,167 +31,88 @@ mod output;
 mod placing;
 mod translation;
 
-ghost use Rattle.std.specs.Prelude.{◌≡◌, ◌<◌, ◌≤◌, length};
+ghost use Rattle.std.specs.Prelude.{◌≤◌, IfSome};
+ghost use Rattle.std.proofs.Props.{props};
 
-use indexing::{Answered, Kept};
 use output::Output;
 use std::io;
 use std::io::{Read, Write};
+use table::Table;
 
-// Writes the reply to a request; whether the line is one, and the index behind it.
-fn reply<W: Write>(line: &[u8], kept: Kept, to: &mut Output<W>) -> Answered
-    requires { kept.n ≤ 64 }
-    ensures { result.kept.n ≤ 64 }
-{
-    if line.len() < 2 {
-        return Answered { kept, good: false };
+// Writes the reply to a request; there is none to a line that is no request.
+fn reply<W: Write>(line: &[u8], table: &mut Table, to: &mut Output<W>) -> Option<()> {
+    match line {
+        [b'I', b' ', ..] => indexing::reply(line, table, to),
+        [b'D', b' ', ..] => decoding::reply(line, to),
+        [b'T', b' ', ..] => translation::reply(line, to),
+        [b'P', b' ', ..] => placing::reply(line, to),
+        _ => None,
     }
-    if line[1] != b' ' {
-        return Answered { kept, good: false };
-    }
-    let good = match line[0] {
-        b'I' => {
-            return indexing::reply(line, kept, to);
+}
+
+// The line so far. Where it has more bytes than there is place for, its length is not kept: it is no request.
+#[derive(Drop)]
+struct Line {
+    bytes: [u8; 8192],
+    len: Option<usize>,
+    ghost within: { IfSome len (λ n. n ≤ 8192) } by { Prim.hlevel props },
+}
+
+impl Line {
+    fn new() -> Line {
+        Line {
+            bytes: [0; 8192],
+            len: Some(0),
         }
-        b'D' => decoding::reply(line, to),
-        b'T' => translation::reply(line, to),
-        b'P' => placing::reply(line, to),
-        _ => false,
-    };
-    Answered { kept, good }
-}
-
-// A line that is too long is no request.
-fn reply_if_short<W: Write>(line: &[u8], used: usize, kept: Kept, to: &mut Output<W>) -> Answered
-    requires { kept.n ≤ 64 }
-    ensures { result.kept.n ≤ 64 }
-{
-    if used <= line.len() {
-        return reply(&line[..used], kept, to);
     }
-    Answered { kept, good: false }
-}
 
-// Where the reply could be written the answer is good.
-fn end_of_line<W: Write>(line: &[u8], used: usize, kept: Kept, to: &mut Output<W>) -> Answered
-    requires { kept.n ≤ 64 }
-    ensures { result.kept.n ≤ 64 }
-{
-    let answered = reply_if_short(line, used, kept, to);
-    if !answered.good {
-        to.write(b"bad request");
+    fn push(&mut self, b: u8) {
+        self.len = match self.len {
+            Some(n) if n < 8192 => {
+                self.bytes[n] = b;
+                Some(n + 1)
+            }
+            _ => None,
+        };
     }
-    to.write(b"\n");
-    let written = to.is_written();
-    let after = answered.kept;
-    Answered {
-        kept: after,
-        good: written,
+
+    // Writes the reply to the line, and begins the next one.
+    fn end<W: Write>(&mut self, table: &mut Table, to: &mut Output<W>) {
+        let replied = match self.len {
+            Some(n) => reply(&self.bytes[..n], table, to),
+            None => None,
+        };
+        if replied.is_none() {
+            to.write(b"bad request");
+        }
+        to.write(b"\n");
+        self.len = Some(0);
     }
 }
 
-// How many bytes the line so far has: one more than there is place for stands for a line that is too long, two more for an output
-// that cannot be written.
-const TOO_LONG: usize = 8193;
-
-const UNWRITABLE: usize = 8194;
-
-fn put(line: &mut [u8], n: usize, b: u8) -> usize
-    requires { 8192 ≡ length line.old }
-{
-    if n < 8192 {
-        line[n] = b;
-        return n + 1;
+// Answers the lines that the text ends, as long as replies can be written.
+fn feed<W: Write>(text: &[u8], line: &mut Line, table: &mut Table, to: &mut Output<W>) {
+    for &b in text {
+        if b == b'\n' {
+            line.end(table, to);
+            if !to.is_written() {
+                return;
+            }
+        } else {
+            line.push(b);
+        }
     }
-    TOO_LONG
-}
-
-// The line so far, and the index behind the lines before it.
-#[derive(Clone, Copy)]
-struct State {
-    used: usize,
-    kept: Kept,
-}
-
-fn ended<W: Write>(line: &[u8], state: State, to: &mut Output<W>) -> State
-    requires { state.kept.n ≤ 64 }
-    ensures { result.kept.n ≤ 64 }
-{
-    let kept = state.kept;
-    let answered = end_of_line(line, state.used, kept, to);
-    let after = answered.kept;
-    let used = if answered.good { 0 } else { UNWRITABLE };
-    State { used, kept: after }
-}
-
-// One byte more.
-fn step<W: Write>(line: &mut [u8], state: State, b: u8, to: &mut Output<W>) -> State
-    requires line_length { 8192 ≡ length line.old }
-    requires few_entries { state.kept.n ≤ 64 }
-    ensures { result.kept.n ≤ 64 }
-{
-    if state.used == UNWRITABLE {
-        return state;
-    }
-    if b == b'\n' {
-        return ended(line, state, to);
-    }
-    let kept = state.kept;
-    let used = put(line, state.used, b);
-    State { used, kept }
-}
-
-fn feed<W: Write>(text: &[u8], line: &mut [u8], state: State, to: &mut Output<W>) -> State
-    requires line_length { 8192 ≡ length line.old }
-    requires few_entries { state.kept.n ≤ 64 }
-    ensures { result.kept.n ≤ 64 }
-{
-    let mut s = state;
-    for i in 0..text.len() {
-        s = step(line, s, text[i], to);
-    }
-    s
-}
-
-// The last line, which may lack its end. An error tells that the output cannot be written.
-fn finish<W: Write + Drop>(line: &[u8], state: State, mut to: Output<W>) -> io::Result<()>
-    requires { state.kept.n ≤ 64 }
-{
-    let used = state.used;
-    if used != UNWRITABLE && used > 0 {
-        ended(line, state, &mut to);
-    }
-    to.close()
-}
-
-// The number of reads is bounded for the proof that the program ends: 2^64 - 1 of them is more than any input. None is left at the input's
-// end, and where the output cannot be written.
-fn reads_left(left: u64, n: usize, used: usize) -> u64
-    requires { 0 < left }
-    ensures { result < left }
-{
-    if n == 0 {
-        return 0;
-    }
-    if used == UNWRITABLE {
-        return 0;
-    }
-    left - 1
 }
 
 fn main(rt: HostRuntime) -> io::Result<()> {
     let mut input = rt.stdin();
     let mut to = Output::new(rt.stdout());
     let mut buf = [0u8; 65536];
-    let mut line = [0u8; 8192];
-    let none = indexing::fresh(0);
-    let mut state = State {
-        used: 0,
-        kept: none,
-    };
-    let mut left = 0xFFFF_FFFF_FFFF_FFFFu64;
+    let mut line = Line::new();
+    let mut table = Table::new(0);
     let mut read = Ok(());
-    while left > 0 {
+    // The number of reads is bounded for the proof that the program ends: 2^64 - 1 of them is more than any input.
+    for _ in 0..u64::MAX {
         // Where a read fails, what came before it is answered as at the input's end.
         let n = match input.read(&mut buf) {
             Ok(n) => n,
@@ -200,9 +121,15 @@ fn main(rt: HostRuntime) -> io::Result<()> {
                 0
             }
         };
-        state = feed(&buf[..n], &mut line, state, &mut to);
-        left = reads_left(left, n, state.used);
+        feed(&buf[..n], &mut line, &mut table, &mut to);
+        if n == 0 || !to.is_written() {
+            break;
+        }
     }
-    finish(&line, state, to)?;
+    // The last line, which may lack its end.
+    if line.len != Some(0) {
+        line.end(&mut table, &mut to);
+    }
+    to.close()?;
     read
 }

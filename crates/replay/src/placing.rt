@@ -1,61 +1,44 @@
 // P lines: code placed in a store that was filled with a pattern.
-ghost use Rattle.std.specs.Prelude.{◌≡◌, ◌≤◌};
+ghost use Rattle.std.specs.Prelude.{◌≡◌, is_some};
 ghost use Rattle.requests.specs.Lines.{is_placing};
 
 use crate::output::Output;
 use std::io::Write;
-use store::Placing;
+use store::{NativeCodeCache, Placed, Refused};
 
 // Another period than the store's pattern has, so that code at a wrong offset is seen.
-fn code_byte(i: usize) -> u8 {
-    255 - (i % 241) as u8
-}
-
 fn fill_code(code: &mut [u8]) {
-    for i in 0..code.len() {
-        code[i] = code_byte(i);
+    for (i, b) in code.iter_mut().enumerate() {
+        *b = 255 - (i % 241) as u8;
     }
 }
 
 // Whether the code stands in the store from the offset on.
 fn is_copied(store: &[u8], offset: usize, code: &[u8]) -> bool {
-    for i in 0..code.len() {
-        if i >= store.len() {
-            return false;
-        }
-        if offset >= store.len() - i {
-            return false;
-        }
-        if store[offset + i] != code[i] {
-            return false;
-        }
-    }
-    true
+    store.get(offset..).is_some_and(|s| s.starts_with(code))
 }
 
 // Prints the answer; whether the store and the mark are then as they must be.
 fn print_answer<W: Write>(
-    placing: Placing,
+    answer: Result<Placed, Refused>,
     used: usize,
     mark: usize,
     code: &[u8],
     store: &[u8],
     to: &mut Output<W>,
 ) -> bool {
-    match placing {
-        Placing::Placed { offset, mark: end } => {
+    match answer {
+        Ok(placed) => {
+            let offset = placed.offset;
+            let end = placed.mark;
             to.print(format_args!("placed {offset} {end}"));
             let before = requests::is_untouched(store, 0, offset);
             let behind = requests::is_untouched(store, end, store.len());
             let copied = is_copied(store, offset, code);
             before && behind && copied && mark == end
         }
-        Placing::Beyond => {
-            to.write(b"6");
-            mark == used && requests::is_untouched(store, 0, store.len())
-        }
-        Placing::Full => {
-            to.write(b"7");
+        Err(refused) => {
+            to.print(refused as u8);
             mark == used && requests::is_untouched(store, 0, store.len())
         }
     }
@@ -65,33 +48,28 @@ fn print_answer<W: Write>(
 fn answer<W: Write>(used: usize, code: &mut [u8], store: &mut [u8], to: &mut Output<W>) {
     fill_code(code);
     requests::fill(store);
-    let a = store::alloc_from(used, code, store);
-    let placing = a.placing;
-    let kept = print_answer(placing, used, a.used, code, store, to);
-    let cleared = store::clear_from(a.used) == 0;
-    if !(kept && cleared) {
+    let mut cache = NativeCodeCache { used };
+    let answer = cache.alloc(code, store);
+    let kept = print_answer(answer, used, cache.used, code, store, to);
+    cache.clear();
+    if !kept || cache.used != 0 {
         to.write(b" touched");
     }
 }
 
-// Lends a code and a store of the lengths that are asked for.
-fn lend<W: Write>(asked: requests::Placing, to: &mut Output<W>)
-    requires { (asked.code ≤ 65536) × (asked.store ≤ 65536) }
+// Writes the reply to a request, which is lent a code and a store of the lengths that it asks for; there is none to a line that is no
+// request.
+pub fn reply<W: Write>(line: &[u8], to: &mut Output<W>) -> Option<()>
+    ensures { is_some result ≡ is_placing line.now }
 {
-    let n = asked.code;
-    let room = asked.store;
+    let asked = requests::read_placing(line)?;
     let mut code = [0u8; 65536];
     let mut store = [0u8; 65536];
-    answer(asked.used, &mut code[..n], &mut store[..room], to);
-}
-
-// Writes the reply to a request; whether the line is one.
-pub fn reply<W: Write>(line: &[u8], to: &mut Output<W>) -> bool
-    ensures { result ≡ is_placing line.now }
-{
-    let asked = requests::read_placing(line);
-    if asked.good {
-        lend(asked, to);
-    }
-    asked.good
+    answer(
+        asked.used,
+        &mut code[..asked.code],
+        &mut store[..asked.store],
+        to,
+    );
+    Some(())
 }

@@ -1,5 +1,5 @@
 // T lines: a translation into an output that was filled with a pattern, by which it is seen whether other bytes changed.
-ghost use Rattle.std.specs.Prelude.{◌≡◌, ◌%◌, ◌<◌, ◌≤◌};
+ghost use Rattle.std.specs.Prelude.{◌≡◌, ◌≤◌, is_some, length};
 ghost use Rattle.requests.specs.Lines.{is_translation};
 
 use crate::output::Output;
@@ -9,38 +9,24 @@ use std::io::Write;
 
 const DIGITS: [u8; 16] = *b"0123456789abcdef";
 
-fn hex_digit(d: u8) -> u8 {
-    DIGITS[(d % 16) as usize]
-}
-
-// Writes the text out when it is full; how much of it is used then.
-fn write_if_full<W: Write>(text: &[u8; 512], n: usize, to: &mut Output<W>) -> usize
-    requires { (n ≤ 512) × (n % 2 ≡ 0) }
-    ensures { (result < 512) × (result % 2 ≡ 0) }
+fn print_part<W: Write>(part: &[u8], to: &mut Output<W>)
+    requires { length part.now ≤ 256 }
 {
-    if n == 512 {
-        to.write(text);
-        return 0;
-    }
-    n
-}
-
-fn print_bytes<W: Write>(code: &[u8], to: &mut Output<W>) {
     let mut text = [0u8; 512];
-    let mut n = 0usize;
-    for i in 0..code.len() {
-        let b = code[i];
-        text[n] = hex_digit(b / 16);
-        text[n + 1] = hex_digit(b % 16);
-        n = write_if_full(&text, n + 2, to);
+    for (i, &b) in part.iter().enumerate() {
+        text[2 * i] = DIGITS[(b / 16) as usize];
+        text[2 * i + 1] = DIGITS[(b % 16) as usize];
     }
-    to.write(&text[..n]);
+    to.write(&text[..2 * part.len()]);
 }
 
 fn print_block<W: Write>(code: &[u8], count: u32, to: &mut Output<W>) {
     let length = code.len();
     to.print(format_args!("block {length} {count} "));
-    print_bytes(code, to);
+    // 256 bytes at a time, since each write is a call of the system.
+    for part in code.chunks(256) {
+        print_part(part, to);
+    }
 }
 
 // Prints the answer, and returns how many bytes of the output are the block's.
@@ -87,24 +73,18 @@ fn answer<W: Write>(asked: Translation, halfwords: &[u16], out: &mut [u8], to: &
     }
 }
 
-// Lends an output of the length that is asked for.
-fn lend<W: Write>(asked: Translation, halfwords: &[u16], to: &mut Output<W>)
-    requires { asked.output ≤ 65536 }
-{
-    let room = asked.output;
-    let mut out = [0u8; 65536];
-    answer(asked, halfwords, &mut out[..room], to);
-}
-
-// Writes the reply to a request; whether the line is one.
-pub fn reply<W: Write>(line: &[u8], to: &mut Output<W>) -> bool
-    ensures { result ≡ is_translation 2048 line.now }
+// Writes the reply to a request, which is lent an output of the length that it asks for; there is none to a line that is no request.
+pub fn reply<W: Write>(line: &[u8], to: &mut Output<W>) -> Option<()>
+    ensures { is_some result ≡ is_translation 2048 line.now }
 {
     let mut halfwords = [0u16; 2048];
-    let asked = requests::read_translation(line, &mut halfwords);
-    if asked.good {
-        let n = asked.count;
-        lend(asked, &halfwords[..n], to);
-    }
-    asked.good
+    let asked = requests::read_translation(line, &mut halfwords)?;
+    let mut out = [0u8; 65536];
+    answer(
+        asked,
+        &halfwords[..asked.count],
+        &mut out[..asked.output],
+        to,
+    );
+    Some(())
 }

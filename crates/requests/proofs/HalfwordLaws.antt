@@ -1,92 +1,65 @@
 -- Laws of a list of halfwords, for the loop that reads one.
-use Rattle.std.proofs.Common.{◌≡◌, sym, ap, ◌∙◌, true, List, [], ◌∷◌, ◌++◌, ℕ, suc, ◌+◌, ◌-◌, ◌%◌, ◌<◌, ◌≤◌, add-one, arith, eq-eqb, ne_eqb}
-use Rattle.std.proofs.Common.{le-leb, length, take, get_or, set, length-set, length-take-le, take-suc-set}
+use Rattle.std.proofs.Common.{◌≡◌, ◌∙◌, List, [], ◌∷◌, ◌++◌, ℕ, suc, ◌+◌, ◌-◌, ◌<◌, ◌≤◌, add-one, arith}
+use Rattle.std.proofs.Common.{le-leb, length, take, set, length-set, take-suc-set, Option, None, Some}
 use borrow.Author.Tests.{lt-leb}
-use Rattle.requests.specs.declared.fields.Field.{Field}
-use Rattle.requests.specs.declared.halfwords.Run.{Run}
-use Rattle.requests.specs.Fields.{number_at}
-use Rattle.requests.specs.Halfwords.{Listed, found, no_list, list_at, run_of, Reads}
+use Rattle.requests.specs.declared.fields.Fields.{Fields}
+use Rattle.requests.specs.Fields.{Reads, word_at}
+use Rattle.requests.specs.Halfwords.{halfword_at, list_at, Lists}
 
-pub reads_none : {list : Listed} {lent : List ℕ} {r : Run} → list ≡ no_list → r ≡ run_of no_list → Reads list lent r
-reads_none {list} {lent} {r} e run = record {
-  run = run ∙ ap run_of (sym e);
-  halfwords = ap (λ (k : Run). take k.count lent) run ∙ ap (λ (l : Listed). l.halfwords) (sym e);
-  fits = let z : r.count ≡ 0 = ap (λ (k : Run). k.count) run in omega arith;
-}
+pub lists_none : {list : Option (List ℕ)} {lent : List ℕ} {r : Option ℕ} → None ≡ list → r ≡ None → Lists list lent r
+lists_none e p = record { halfwords = rw p e; fits = rw p tt }
 
-pub reads_found : {list : Listed} {lent : List ℕ} {n : ℕ} → list ≡ found (take n lent) → n ≤ length lent
-    → Reads list lent (record { count = n; good = true })
-reads_found {list} {lent} {n} e p = record {
-  run = rw (e, length-take-le n lent p);
-  halfwords = ap (λ (l : Listed). l.halfwords) (sym e);
-  fits = p;
-}
-
--- the halfwords before `at` are read: they are the first `n` of the lent ones
-pub record Read (room : ℕ) (line : List ℕ) (from : ℕ) (lent : List ℕ) (n at : ℕ) : Type 0 where
+-- the halfwords of the list at `start` that stand before `here` are read: they are the first `n` of the lent ones
+pub record Read (room : ℕ) (start : Fields) (lent : List ℕ) (n : ℕ) (here : Fields) : Type 0 where
   pub size : length lent ≡ room
-  pub count : n ≤ room
-  pub list : list_at room line from [] ≡ list_at (room - n) line at (take n lent)
+  pub line : here.line ≡ start.line
+  pub list : list_at room start.line.now start.at [] ≡ list_at (room - n) here.line.now here.at (take n lent)
 
-module _ {room : ℕ} {line : List ℕ} {from : ℕ} {lent : List ℕ} {n at : ℕ} (read : Read room line from lent n at) where
-  pub no_room : room ≤ n → list_at room line from [] ≡ no_list
+module _ {room : ℕ} {start : Fields} {lent : List ℕ} {n : ℕ} {here : Fields} (read : Read room start lent n here) where
+  pub no_room : room ≤ n → None ≡ list_at room start.line.now start.at []
   unfolding list_at
   no_room p = let e : room - n ≡ 0 = omega arith in rw (read.list, e)
 
-  module _ {halfword : Field} (is : halfword ≡ number_at 16 line at) (more : n < room) where
+  module _ (more : n < room) where
     one_more : room - n ≡ suc (room - (n + 1))
     one_more = omega arith
 
-    pub no_halfword : (halfword.next ≡ at + 4 → ⊥) → list_at room line from [] ≡ no_list
+    pub no_halfword : None ≡ halfword_at here.line.now here.at → None ≡ list_at room start.line.now start.at []
     unfolding list_at
-    no_halfword p = rw (read.list, one_more, ← is, ne_eqb halfword.next (at + 4) p)
+    no_halfword p = rw (read.list, one_more, ← p)
 
-    module _ (four : halfword.next ≡ at + 4) where
-      abbrev value : ℕ
-      value = halfword.value % 65536
-
+    module _ {value : ℕ} {behind : Fields} (halfword : Reads halfword_at here behind (Some value)) where
       with_it : take (n + 1) (set lent n value) ≡ take n lent ++ (value ∷ [])
       with_it = rw add-one (take-suc-set lent n value (omega (arith, read.size)))
 
-      pub at_the_end : length line ≤ halfword.next → list_at room line from [] ≡ found (take (n + 1) (set lent n value))
+      pub at_the_end : length behind.line.now ≤ behind.at → Lists (list_at room start.line.now start.at []) (set lent n value) (Some (n + 1))
       unfolding list_at
       at_the_end p =
-          let q : length line ≤ at + 4 = omega (arith, four) in
-          rw (read.list, one_more, ← is, eq-eqb halfword.next (at + 4) four, le-leb (length line) (at + 4) q, with_it)
-
-      pub at_another_byte : halfword.next < length line → (get_or line halfword.next 0 ≡ 44 → ⊥) → list_at room line from [] ≡ no_list
-      unfolding list_at
-      at_another_byte p h =
-          let q : at + 4 < length line = omega (arith, four) in
-          rw (
-            read.list,
-            one_more,
-            ← is,
-            eq-eqb halfword.next (at + 4) four,
-            lt-leb (length line) (at + 4) q,
-            ne_eqb (get_or line (at + 4) 0) 44 (rw four at h),
-          )
-
-      pub at_a_comma : halfword.next < length line → get_or line halfword.next 0 ≡ 44
-          → Read room line from (set lent n value) (n + 1) (halfword.next + 1)
-      unfolding list_at
-      at_a_comma p h =
-          let q : at + 4 < length line = omega (arith, four) in
-          let next : at + 5 ≡ halfword.next + 1 = omega (arith, four) in
+          let end : length here.line.now ≤ behind.at = rw (← halfword.line) p in
           record {
-            size = length-set lent n value ∙ read.size;
-            count = omega arith;
-            list =
-                rw (
-                  read.list,
-                  one_more,
-                  ← is,
-                  eq-eqb halfword.next (at + 4) four,
-                  lt-leb (length line) (at + 4) q,
-                  eq-eqb (get_or line (at + 4) 0) 44 (rw four at h),
-                  with_it,
-                  next,
-                );
+            halfwords = rw (read.list, one_more, ← halfword.field, le-leb (length here.line.now) behind.at end, with_it);
+            fits = rw length-set (omega (arith, read.size));
           }
 
-pub ruleset list_steps = (reads_none, no_room, no_halfword, at_another_byte, at_a_comma)
+      module _ (on : behind.at < length behind.line.now) where
+        go_on : behind.at < length here.line.now
+        go_on = rw (← halfword.line) on
+
+        pub no_comma : None ≡ word_at (44 ∷ []) behind.line.now behind.at → None ≡ list_at room start.line.now start.at []
+        unfolding list_at
+        no_comma p =
+            let none : None ≡ word_at (44 ∷ []) here.line.now behind.at = rw (← halfword.line) p in
+            rw (read.list, one_more, ← halfword.field, lt-leb (length here.line.now) behind.at go_on, ← none)
+
+        pub at_a_comma : {next : Fields} → Reads (word_at (44 ∷ [])) behind next (Some tt) → Read room start (set lent n value) (n + 1) next
+        unfolding list_at
+        at_a_comma {next} comma =
+            let line : next.line ≡ here.line = comma.line ∙ halfword.line in
+            let there : Some (record { value = tt; next = next.at }) ≡ word_at (44 ∷ []) here.line.now behind.at = rw (← halfword.line) comma.field in
+            record {
+              size = length-set lent n value ∙ read.size;
+              line = line ∙ read.line;
+              list = rw (read.list, one_more, ← halfword.field, lt-leb (length here.line.now) behind.at go_on, ← there, with_it, line);
+            }
+
+pub ruleset list_steps = (lists_none, no_room, no_halfword, no_comma)

@@ -1,6 +1,8 @@
 -- The numbers of a request line: digits up to a space or the line's end, of 64 bits at most.
-use Rattle.std.specs.Prelude.{Bool, false, cond, ◌&&◌, List, [], ◌∷◌, ℕ, ◌+◌, ◌*◌, ◌-◌, ◌^◌, ltb, eqb, length, drop, get_or}
-use Rattle.requests.specs.declared.fields.Field.{Field}
+use Rattle.std.specs.Prelude.{◌≡◌, cond, ◌&&◌, List, [], ◌∷◌, ℕ, ◌+◌, ◌*◌, ◌-◌, ◌^◌, ltb, leb, eqb, length, drop, Option, Some, None}
+use Rattle.std.specs.Prelude.{option_and_then, option_map}
+use Rattle.std.specs.List.{starts_with}
+use Rattle.requests.specs.declared.fields.Fields.{Fields}
 
 -- ASCII: 0 to 9, A to F, a to f; 16 for any other byte
 unfoldable pub digit_of : ℕ → ℕ
@@ -12,33 +14,53 @@ digit_of b =
     (cond (ltb b 97) 16
     (cond (ltb b 103) (b - 87) 16)))))
 
--- a number ends before the index `at`; there is none where it starts there
-abbrev pub ends : (from value at : ℕ) → Field
-ends from value at = record { value = value; next = at; good = ltb from at }
+-- what stands at a place of the line, and the place behind it
+pub record Field (A : Type 0) : Type 0 where
+  pub value : A
+  pub next : ℕ
 
--- the digit at the index `at` is one too many
-abbrev pub too_long : ℕ → Field
-too_long at = record { value = 0; next = at; good = false }
+-- the code reads what a definition gives at its place, and is then behind it
+pub record Reads {A : Type 0} (definition : List ℕ → ℕ → Option (Field A)) (before after : Fields) (r : Option A) : Type 0 where
+  pub field : option_map (λ v. record { value = v; next = after.at }) r ≡ definition before.line.now before.at
+  pub line : after.line ≡ before.line
 
--- the rest of the line from the index `at` on, behind digits from `from` on whose value is `value`
-unfoldable pub digits : (base from value at : ℕ) → List ℕ → Field
+infixl 10 ◌>>=◌
+abbrev pub ◌>>=◌ : {A B : Type 0} → Option A → (A → Option B) → Option B
+o >>= f = option_and_then f o
+
+-- a number ends before the place `at`; there is none where it starts there
+abbrev pub ends : (from value at : ℕ) → Option (Field ℕ)
+ends from value at = cond (ltb from at) (Some (record { value = value; next = at })) None
+
+-- the rest of the line from the place `at` on, behind digits from `from` on whose value is `value`; where a digit is one too many
+-- there is no number
+unfoldable pub digits : (base from value at : ℕ) → List ℕ → Option (Field ℕ)
 digits base from value at [] = ends from value at
 digits base from value at (b ∷ rest) =
     cond (ltb (digit_of b) base)
-    (cond (ltb (value * base + digit_of b) (2 ^ 64)) (digits base from (value * base + digit_of b) (at + 1) rest) (too_long at))
+    (cond (ltb (value * base + digit_of b) (2 ^ 64)) (digits base from (value * base + digit_of b) (at + 1) rest) None)
     (ends from value at)
 
-unfoldable pub number_at : (base : ℕ) → List ℕ → (from : ℕ) → Field
+unfoldable pub number_at : (base : ℕ) → List ℕ → (from : ℕ) → Option (Field ℕ)
 number_at base line from = digits base from 0 from (drop from line)
 
--- the index behind a number and its space, the line's end where one of them is missing
-unfoldable pub index_behind : List ℕ → Field → ℕ
-index_behind line field = cond field.good (cond (eqb (get_or line field.next 0) 32) (field.next + 1) (length line)) (length line)
+-- the word, where it stands at the place `at` of the line
+unfoldable pub word_at : (word line : List ℕ) → (at : ℕ) → Option (Field (Unit {0}))
+word_at word line at =
+    cond (leb at (length line) && starts_with eqb (drop at line) word) (Some (record { value = tt; next = at + length word })) None
 
--- the number behind another and its space
-unfoldable pub next_number : (base : ℕ) → List ℕ → Field → Field
-next_number base line field = number_at base line (index_behind line field)
+-- a space and a number
+unfoldable pub next_number : (base : ℕ) → List ℕ → (at : ℕ) → Option (Field ℕ)
+next_number base line at = do
+  space ← word_at (32 ∷ []) line at
+  number_at base line space.next
 
--- a number with the line's end behind it
-unfoldable pub is_last : List ℕ → Field → Bool
-is_last line field = field.good && eqb field.next (length line)
+-- the same in decimal; one above `greatest` is no number
+unfoldable pub next_at_most : (greatest : ℕ) → List ℕ → (at : ℕ) → Option (Field ℕ)
+next_at_most greatest line at = do
+  number ← next_number 10 line at
+  cond (leb number.value greatest) (Some number) None
+
+-- the line's end
+unfoldable pub end_at : List ℕ → (at : ℕ) → Option (Unit {0})
+end_at line at = cond (eqb at (length line)) (Some tt) None

@@ -1,35 +1,16 @@
 // D <word hex>
 ghost use Rattle.std.specs.Prelude.{◌≡◌};
-ghost use Rattle.requests.specs.Lines.{is_decoding_of, decoding_of};
+ghost use Rattle.requests.specs.Lines.{decoding_of};
 
-use crate::fields;
-use crate::fields::Field;
+use crate::fields::Fields;
 
-#[derive(Clone, Copy)]
-pub struct Decoding {
-    pub word: u32,
-    pub good: bool,
-}
-
-// A word has 32 bits.
-#[tactic(auto, unfolding(crate::specs::Lines::is_decoding_of))]
-fn is_decoding(line: &[u8], word: Field) -> bool
-    ensures { result ≡ is_decoding_of line.now word }
-{
-    if fields::is_last(line, word) {
-        return word.value < 0x1_0000_0000;
-    }
-    false
-}
-
-// The fields behind the line's letter.
-pub fn read_decoding(line: &[u8]) -> Decoding
+// The word behind the line's letter.
+#[tactic(auto, unfolding(crate::specs::Lines::decoding_of))]
+pub fn read_decoding(line: &[u8]) -> Option<u32>
     ensures { result ≡ decoding_of line.now }
 {
-    let word = fields::hexadecimal(line, 2);
-    let good = is_decoding(line, word);
-    Decoding {
-        word: (word.value % 0x1_0000_0000) as u32,
-        good,
-    }
+    let mut fields = Fields { line, at: 2 };
+    let word = fields.number(16)?;
+    fields.end()?;
+    u32::try_from(word).ok()
 }

@@ -1,118 +1,90 @@
-// The fields of a request line: numbers, one space between two of them.
-ghost use Rattle.std.specs.Prelude.{◌≡◌, ◌<◌};
-ghost use Rattle.requests.specs.Fields.{digit_of, number_at, index_behind, next_number, is_last};
+// The fields of a request line: numbers, a space before each but the first.
+ghost use Rattle.std.specs.Prelude.{◌≡◌, ◌<◌, ◌≤◌, ◌-◌, ◌^◌, length, get_or, IfSome, IsSome, SomeIff};
+ghost use Rattle.requests.specs.Fields.{digit_of, Reads, number_at, word_at, next_number, next_at_most, end_at};
 
-// A number, the index behind it, and whether there is one: a digit at least, and not too many of them.
+// A line, and the place from which on it is read.
 #[derive(Clone, Copy)]
-pub struct Field {
-    pub value: u64,
-    pub next: usize,
-    pub good: bool,
+pub struct Fields<'a> {
+    pub line: &'a [u8],
+    pub at: usize,
 }
 
-// The value of a hexadecimal digit, 16 for any other byte.
-#[tactic(auto, unfolding(crate::specs::Fields::digit_of))]
-fn digit(b: u8) -> u8
-    ensures { result ≡ digit_of b }
-{
-    match b {
-        b'0'..=b'9' => b - b'0',
-        b'A'..=b'F' => b - b'A' + 10,
-        b'a'..=b'f' => b - b'a' + 10,
-        _ => 16,
+impl<'a> Fields<'a> {
+    // The digit at the place.
+    #[tactic(auto, unfolding(crate::specs::Fields::digit_of))]
+    fn digit(&self, base: u32) -> Option<u32>
+        requires low { 2 ≤ base }
+        requires high { base ≤ 16 }
+        ensures digit { let d = digit_of (get_or self.now.line.now self.now.at 0) in SomeIff result (d < base) d }
+        ensures within { IsSome result → self.now.at < length self.now.line.now }
+    {
+        let b = *self.line.get(self.at)?;
+        (b as char).to_digit(base)
     }
-}
 
-// Digits are read as long as there are any; at the digit with which the number would have over 64 bits there is no number.
-#[tactic(auto, using(crate::proofs::DigitLaws::number_steps))]
-fn number(base: u64, line: &[u8], from: usize) -> Field
-    requires { 0 < base }
-    ensures { result ≡ number_at base line.now from }
-{
-    let mut value = 0u64;
-    let mut at = from;
-    while at < line.len() {
-        let d = digit(line[at]) as u64;
-        if d >= base {
-            return Field {
-                value,
-                next: at,
-                good: from < at,
-            };
+    // Digits are read as long as there are any; at the digit with which the number would have over 64 bits there is no number.
+    #[tactic(auto, using(crate::proofs::DigitLaws::number_steps))]
+    pub fn number(&mut self, base: u32) -> Option<u64>
+        requires low { 2 ≤ base }
+        requires high { base ≤ 16 }
+        ensures number { Reads (number_at base) self.old self.new result }
+        ensures behind { IfSome result (λ _. self.old.at < self.new.at) }
+    {
+        let from = self.at;
+        let mut value = 0u64;
+        while let Some(d) = self.digit(base) {
+            value = value.checked_mul(base as u64)?.checked_add(d as u64)?;
+            self.at += 1;
         }
-        if value > (0xFFFF_FFFF_FFFF_FFFF - d) / base {
-            return Field {
-                value: 0,
-                next: at,
-                good: false,
-            };
+        (from < self.at).then_some(value)
+    }
+
+    // Passes the word, where it stands at the place.
+    #[tactic(auto, unfolding(crate::specs::Fields::word_at))]
+    pub fn pass(&mut self, word: &[u8]) -> Option<()>
+        ensures { Reads (word_at word.now) self.old self.new result }
+    {
+        if !self.line.get(self.at..)?.starts_with(word) {
+            return None;
         }
-        value = value * base + d;
-        at += 1;
+        self.at += word.len();
+        Some(())
     }
-    Field {
-        value,
-        next: at,
-        good: from < at,
+
+    // A space and a number.
+    #[tactic(auto, unfolding(crate::specs::Fields::next_number))]
+    pub fn next_number(&mut self, base: u32) -> Option<u64>
+        requires low { 2 ≤ base }
+        requires high { base ≤ 16 }
+        ensures { Reads (next_number base) self.old self.new result }
+    {
+        self.pass(b" ")?;
+        self.number(base)
     }
-}
 
-pub fn hexadecimal(line: &[u8], from: usize) -> Field
-    ensures { result ≡ number_at 16 line.now from }
-{
-    number(16, line, from)
-}
-
-pub fn decimal(line: &[u8], from: usize) -> Field
-    ensures { result ≡ number_at 10 line.now from }
-{
-    number(10, line, from)
-}
-
-// The index behind a number and its space. Where one of them is missing this is the line's end, at which there is no number:
-// so only the last field of a line has to be asked whether it is good.
-#[tactic(auto, unfolding(crate::specs::Fields::index_behind))]
-pub fn behind(line: &[u8], field: Field) -> usize
-    ensures { result ≡ index_behind line.now field }
-{
-    let at = field.next;
-    if field.good {
-        if at < line.len() {
-            if line[at] == b' ' {
-                return at + 1;
-            }
-        }
+    // A space and a decimal number that is not above the greatest.
+    #[tactic(auto, unfolding(crate::specs::Fields::next_at_most))]
+    pub fn next_at_most(&mut self, greatest: u64) -> Option<u64>
+        ensures number { Reads (next_at_most greatest) self.old self.new result }
+        ensures fits { IfSome result (λ n. n ≤ greatest) }
+    {
+        let number = self.next_number(10)?;
+        (number <= greatest).then_some(number)
     }
-    line.len()
-}
 
-#[tactic(auto, unfolding(crate::specs::Fields::next_number))]
-fn next_number(base: u64, line: &[u8], field: Field) -> Field
-    requires { 0 < base }
-    ensures { result ≡ next_number base line.now field }
-{
-    number(base, line, behind(line, field))
-}
-
-pub fn next_hexadecimal(line: &[u8], field: Field) -> Field
-    ensures { result ≡ next_number 16 line.now field }
-{
-    next_number(16, line, field)
-}
-
-pub fn next_decimal(line: &[u8], field: Field) -> Field
-    ensures { result ≡ next_number 10 line.now field }
-{
-    next_number(10, line, field)
-}
-
-// Whether a number is there, and the line's end behind it.
-#[tactic(auto, unfolding(crate::specs::Fields::is_last))]
-pub fn is_last(line: &[u8], field: Field) -> bool
-    ensures { result ≡ is_last line.now field }
-{
-    if field.good {
-        return field.next == line.len();
+    // A space and a decimal number of 32 bits.
+    #[tactic(auto, unfolding(crate::specs::Fields::next_at_most))]
+    pub fn next_u32(&mut self) -> Option<u32>
+        ensures { Reads (next_at_most (2 ^ 32 - 1)) self.old self.new result }
+    {
+        u32::try_from(self.next_number(10)?).ok()
     }
-    false
+
+    // The line's end.
+    #[tactic(auto, unfolding(crate::specs::Fields::end_at))]
+    pub fn end(&self) -> Option<()>
+        ensures { result ≡ end_at self.now.line.now self.now.at }
+    {
+        (self.at == self.line.len()).then_some(())
+    }
 }

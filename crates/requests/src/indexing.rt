@@ -1,11 +1,19 @@
 // I lines, about the index of blocks: new <n>, set <slot> <use> <satp hex> <pc hex> <offset> <count>,
 // insert <satp hex> <pc hex> <offset> <count>, find <satp hex> <pc hex>, empty, show
-ghost use Rattle.std.specs.Prelude.{◌≡◌};
-ghost use Rattle.requests.specs.Indexing.{begins_with, word_of, next_at_most, request_if};
-ghost use Rattle.requests.specs.Indexing.{new_of, set_of, insert_of, find_of, indexing_of};
+ghost use Rattle.std.specs.Prelude.{◌≡◌, IfSome};
+ghost use Rattle.requests.specs.Fields.{Reads};
+ghost use Rattle.requests.specs.Indexing.{block_at, new_of, set_of, insert_of, find_of, alone_of, indexing_of, Fits};
 
-use crate::fields;
-use crate::fields::Field;
+use crate::fields::Fields;
+
+// A block, and the key under which an entry has it.
+#[derive(Clone, Copy)]
+pub struct KeyedBlock {
+    pub satp: u64,
+    pub pc: u64,
+    pub offset: usize,
+    pub count: u32,
+}
 
 #[derive(Clone, Copy)]
 pub enum Indexing {
@@ -15,16 +23,10 @@ pub enum Indexing {
     Set {
         slot: usize,
         in_use: u32,
-        satp: u64,
-        pc: u64,
-        offset: usize,
-        count: u32,
+        block: KeyedBlock,
     },
     Insert {
-        satp: u64,
-        pc: u64,
-        offset: usize,
-        count: u32,
+        block: KeyedBlock,
     },
     Find {
         satp: u64,
@@ -32,151 +34,104 @@ pub enum Indexing {
     },
     Empty,
     Show,
-    NoRequest,
 }
 
 // The most entries of an index.
 const ENTRIES: u64 = 64;
 
-// The greatest number of 32 bits.
-const GREATEST_U32: u64 = 0xFFFF_FFFF;
-
-#[tactic(auto, using(crate::proofs::IndexingLaws::word_steps))]
-fn begins_with(line: &[u8], word: &[u8]) -> bool
-    ensures { result ≡ begins_with word.now line.now }
-{
-    let mut i = 0;
-    while i < word.len() {
-        if i >= line.len() {
-            return false;
-        }
-        if line[i] != word[i] {
-            return false;
-        }
-        i += 1;
-    }
-    true
-}
-
-// The word as a field, so that the number behind it is read like the number behind another.
-#[tactic(auto, unfolding(crate::specs::Indexing::word_of))]
-fn word_of(line: &[u8], word: &[u8]) -> Field
-    ensures { result ≡ word_of word.now line.now }
-{
-    let good = begins_with(line, word);
-    Field {
-        value: 0,
-        next: word.len(),
-        good,
+impl<'a> Fields<'a> {
+    #[tactic(auto, unfolding(crate::specs::Indexing::block_at))]
+    fn block(&mut self) -> Option<KeyedBlock>
+        ensures { Reads block_at self.old self.new result }
+    {
+        let satp = self.next_number(16)?;
+        let pc = self.next_number(16)?;
+        let offset = self.next_number(10)? as usize;
+        let count = self.next_u32()?;
+        Some(KeyedBlock {
+            satp,
+            pc,
+            offset,
+            count,
+        })
     }
 }
 
-// A number above the greatest is none: so no field behind it is good either.
-#[tactic(auto, unfolding(crate::specs::Indexing::next_at_most))]
-fn next_at_most(greatest: u64, line: &[u8], field: Field) -> Field
-    ensures { result ≡ next_at_most greatest line.now field }
-{
-    let number = fields::next_decimal(line, field);
-    if number.value <= greatest {
-        return number;
-    }
-    Field {
-        value: 0,
-        next: number.next,
-        good: false,
-    }
-}
-
-#[tactic(auto, unfolding(crate::specs::Indexing::request_if))]
-fn request_if(good: bool, request: Indexing, other: Indexing) -> Indexing
-    ensures { result ≡ request_if good request other }
-{
-    if good { request } else { other }
-}
-
-// What the line asks for; `other` where its word is another or a field is missing. So for each word below.
+// What the line asks for, where its word is this one and no field is missing. So for each word below.
 #[tactic(auto, unfolding(crate::specs::Indexing::new_of))]
-fn read_new(line: &[u8], other: Indexing) -> Indexing
-    ensures { result ≡ new_of line.now other }
+fn read_new(line: &[u8]) -> Option<Indexing>
+    ensures asked { result ≡ new_of line.now }
+    ensures fits { IfSome result Fits }
 {
-    let word = word_of(line, b"I new");
-    let n = next_at_most(ENTRIES, line, word);
-    let good = fields::is_last(line, n);
-    let request = Indexing::New {
-        n: n.value as usize,
-    };
-    request_if(good, request, other)
+    let mut fields = Fields { line, at: 0 };
+    fields.pass(b"I new")?;
+    let n = fields.next_at_most(ENTRIES)? as usize;
+    fields.end()?;
+    Some(Indexing::New { n })
 }
 
 #[tactic(auto, unfolding(crate::specs::Indexing::set_of))]
-fn read_set(line: &[u8], other: Indexing) -> Indexing
-    ensures { result ≡ set_of line.now other }
+fn read_set(line: &[u8]) -> Option<Indexing>
+    ensures asked { result ≡ set_of line.now }
+    ensures fits { IfSome result Fits }
 {
-    let word = word_of(line, b"I set");
-    let slot = fields::next_decimal(line, word);
-    let in_use = next_at_most(GREATEST_U32, line, slot);
-    let satp = fields::next_hexadecimal(line, in_use);
-    let pc = fields::next_hexadecimal(line, satp);
-    let offset = fields::next_decimal(line, pc);
-    let count = next_at_most(GREATEST_U32, line, offset);
-    let good = fields::is_last(line, count);
-    let request = Indexing::Set {
-        slot: slot.value as usize,
-        in_use: in_use.value as u32,
-        satp: satp.value,
-        pc: pc.value,
-        offset: offset.value as usize,
-        count: count.value as u32,
-    };
-    request_if(good, request, other)
+    let mut fields = Fields { line, at: 0 };
+    fields.pass(b"I set")?;
+    let slot = fields.next_number(10)? as usize;
+    let in_use = fields.next_u32()?;
+    let block = fields.block()?;
+    fields.end()?;
+    Some(Indexing::Set {
+        slot,
+        in_use,
+        block,
+    })
 }
 
 #[tactic(auto, unfolding(crate::specs::Indexing::insert_of))]
-fn read_insert(line: &[u8], other: Indexing) -> Indexing
-    ensures { result ≡ insert_of line.now other }
+fn read_insert(line: &[u8]) -> Option<Indexing>
+    ensures asked { result ≡ insert_of line.now }
+    ensures fits { IfSome result Fits }
 {
-    let word = word_of(line, b"I insert");
-    let satp = fields::next_hexadecimal(line, word);
-    let pc = fields::next_hexadecimal(line, satp);
-    let offset = fields::next_decimal(line, pc);
-    let count = next_at_most(GREATEST_U32, line, offset);
-    let good = fields::is_last(line, count);
-    let request = Indexing::Insert {
-        satp: satp.value,
-        pc: pc.value,
-        offset: offset.value as usize,
-        count: count.value as u32,
-    };
-    request_if(good, request, other)
+    let mut fields = Fields { line, at: 0 };
+    fields.pass(b"I insert")?;
+    let block = fields.block()?;
+    fields.end()?;
+    Some(Indexing::Insert { block })
 }
 
 #[tactic(auto, unfolding(crate::specs::Indexing::find_of))]
-fn read_find(line: &[u8], other: Indexing) -> Indexing
-    ensures { result ≡ find_of line.now other }
+fn read_find(line: &[u8]) -> Option<Indexing>
+    ensures asked { result ≡ find_of line.now }
+    ensures fits { IfSome result Fits }
 {
-    let word = word_of(line, b"I find");
-    let satp = fields::next_hexadecimal(line, word);
-    let pc = fields::next_hexadecimal(line, satp);
-    let good = fields::is_last(line, pc);
-    let request = Indexing::Find {
-        satp: satp.value,
-        pc: pc.value,
-    };
-    request_if(good, request, other)
+    let mut fields = Fields { line, at: 0 };
+    fields.pass(b"I find")?;
+    let satp = fields.next_number(16)?;
+    let pc = fields.next_number(16)?;
+    fields.end()?;
+    Some(Indexing::Find { satp, pc })
+}
+
+// The same for a word with nothing behind it.
+#[tactic(auto, unfolding(crate::specs::Indexing::alone_of))]
+fn read_alone(line: &[u8], word: &[u8], request: Indexing) -> Option<Indexing>
+    requires { Fits request }
+    ensures asked { result ≡ alone_of word.now request line.now }
+    ensures fits { IfSome result Fits }
+{
+    (line == word).then_some(request)
 }
 
 // The whole line, with its letter.
-pub fn read_indexing(line: &[u8]) -> Indexing
-    ensures { result ≡ indexing_of line.now }
+pub fn read_indexing(line: &[u8]) -> Option<Indexing>
+    ensures asked { result ≡ indexing_of line.now }
+    ensures fits { IfSome result Fits }
 {
-    let show = word_of(line, b"I show");
-    let empty = word_of(line, b"I empty");
-    let is_show = fields::is_last(line, show);
-    let is_empty = fields::is_last(line, empty);
-    let asked = request_if(is_show, Indexing::Show, Indexing::NoRequest);
-    let asked = request_if(is_empty, Indexing::Empty, asked);
-    let asked = read_find(line, asked);
-    let asked = read_insert(line, asked);
-    let asked = read_set(line, asked);
-    read_new(line, asked)
+    read_new(line)
+        .or_else(|| read_set(line))
+        .or_else(|| read_insert(line))
+        .or_else(|| read_find(line))
+        .or_else(|| read_alone(line, b"I empty", Indexing::Empty))
+        .or_else(|| read_alone(line, b"I show", Indexing::Show))
 }

@@ -9,8 +9,8 @@ mod pattern;
 mod placing;
 mod translation;
 
-pub use decoding::{Decoding, read_decoding};
-pub use indexing::{Indexing, read_indexing};
+pub use decoding::read_decoding;
+pub use indexing::{Indexing, KeyedBlock, read_indexing};
 pub use pattern::{fill, is_untouched};
 pub use placing::{Placing, read_placing};
 pub use translation::{Translation, read_translation};

@@ -1,42 +1,27 @@
 // P <used> <store length> <code length>
-ghost use Rattle.std.specs.Prelude.{◌≡◌};
-ghost use Rattle.requests.specs.Lines.{is_placing_of, placing_of};
+ghost use Rattle.std.specs.Prelude.{◌≡◌, ◌≤◌, IfSome};
+ghost use Rattle.requests.specs.Lines.{placing_of};
 
-use crate::fields::Field;
-use crate::{LENT, fields};
+use crate::LENT;
+use crate::fields::Fields;
 
 #[derive(Clone, Copy)]
 pub struct Placing {
     pub used: usize,
     pub store: usize,
     pub code: usize,
-    pub good: bool,
-}
-
-#[tactic(auto, unfolding(crate::specs::Lines::is_placing_of))]
-fn is_placing(line: &[u8], store: Field, code: Field) -> bool
-    ensures { result ≡ is_placing_of line.now store code }
-{
-    if fields::is_last(line, code) {
-        if store.value <= LENT {
-            return code.value <= LENT;
-        }
-    }
-    false
 }
 
 // The fields behind the line's letter.
-pub fn read_placing(line: &[u8]) -> Placing
-    ensures { result ≡ placing_of line.now }
+#[tactic(auto, unfolding(crate::specs::Lines::placing_of))]
+pub fn read_placing(line: &[u8]) -> Option<Placing>
+    ensures fields { result ≡ placing_of line.now }
+    ensures fits { IfSome result (λ p. (p.store ≤ LENT) × (p.code ≤ LENT)) }
 {
-    let used = fields::decimal(line, 2);
-    let store = fields::next_decimal(line, used);
-    let code = fields::next_decimal(line, store);
-    let good = is_placing(line, store, code);
-    Placing {
-        used: used.value as usize,
-        store: store.value as usize,
-        code: code.value as usize,
-        good,
-    }
+    let mut fields = Fields { line, at: 2 };
+    let used = fields.number(10)? as usize;
+    let store = fields.next_at_most(LENT)? as usize;
+    let code = fields.next_at_most(LENT)? as usize;
+    fields.end()?;
+    Some(Placing { used, store, code })
 }

@@ -1,5 +1,7 @@
-use Rattle.requests.proofs.PatternLaws.{all_filled}
+use Rattle.std.proofs.Common.{arith}
+use Rattle.std.proofs.lemmas.List.FromFn.{fill_by_all}
+use Rattle.requests.specs.Pattern.{pattern_byte}
 use Rattle.requests.proofs.pattern.fill.Goals as goal
 
 pub returns : goal.returns
-returns c = all_filled c.loop-i.invariant c.loop-i-test.false
+returns c = fill_by_all pattern_byte c.loop-i.bytes _ 0 c.loop-i.auto.bytes (λ k p. c.loop-i.invariant k (omega arith))
