@@ -15,7 +15,13 @@ fn print<W: Write>(word: u32, to: &mut Output<W>) {
     let d = decode::decode32(word);
     to.print(format_args!(
         "{} {} {} {} {} {} {}",
-        d.opcode, d.rd, d.funct3, d.rs1, d.rs2, d.funct7, d.imm12
+        d.opcode,
+        d.rd.number(),
+        d.funct3,
+        d.rs1.number(),
+        d.rs2.number(),
+        d.funct7,
+        d.imm12
     ));
 }
 

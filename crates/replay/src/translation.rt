@@ -3,7 +3,7 @@ ghost use Rattle.std.specs.Prelude.{◌≡◌, ◌≤◌, is_some, length};
 ghost use Rattle.requests.specs.Lines.{is_translation};
 
 use crate::output::Output;
-use block::Answer;
+use block::{Block, Helpers, Refusal};
 use requests::Translation;
 use std::io::Write;
 
@@ -29,44 +29,40 @@ fn print_block<W: Write>(code: &[u8], count: u32, to: &mut Output<W>) {
     }
 }
 
+// Prints why there is no block.
+fn print_refusal<W: Write>(refusal: Refusal, to: &mut Output<W>) {
+    match refusal {
+        Refusal::LimitZero => to.write(b"1"),
+        Refusal::OddStart(start) => to.print(format_args!("2 {start:016x}")),
+        Refusal::Missing(index) => to.print(format_args!("3 {index}")),
+        Refusal::NotTaken(word) => to.print(format_args!("4 {word:08x}")),
+        Refusal::OutputShort => to.write(b"5"),
+    }
+}
+
 // Prints the answer, and returns how many bytes of the output are the block's.
-fn print_answer<W: Write>(answer: Answer, out: &[u8], to: &mut Output<W>) -> usize {
+fn print_answer<W: Write>(answer: Result<Block, Refusal>, out: &[u8], to: &mut Output<W>) -> usize {
     match answer {
-        Answer::Block { length, count } => {
-            if length <= out.len() {
-                print_block(&out[..length], count, to);
+        Ok(block) => {
+            if let Some(code) = out.get(..block.length) {
+                print_block(code, block.count, to);
             }
-            return length;
+            block.length
         }
-        Answer::LimitZero => {
-            to.write(b"1");
-        }
-        Answer::OddStart(start) => {
-            to.print(format_args!("2 {start:016x}"));
-        }
-        Answer::Missing(index) => {
-            to.print(format_args!("3 {index}"));
-        }
-        Answer::NotTaken(word) => {
-            to.print(format_args!("4 {word:08x}"));
-        }
-        Answer::OutputShort => {
-            to.write(b"5");
+        Err(refusal) => {
+            print_refusal(refusal, to);
+            0
         }
     }
-    0
 }
 
 fn answer<W: Write>(asked: Translation, halfwords: &[u16], out: &mut [u8], to: &mut Output<W>) {
     requests::fill(out);
-    let answer = block::translate(
-        asked.start,
-        asked.limit,
-        halfwords,
-        asked.helper16,
-        asked.helper_mem,
-        out,
-    );
+    let helpers = Helpers {
+        helper16: asked.helper16,
+        helper_mem: asked.helper_mem,
+    };
+    let answer = block::translate(asked.start, asked.limit, halfwords, helpers, out);
     let used = print_answer(answer, out, to);
     if !requests::is_untouched(out, used, out.len()) {
         to.write(b" touched");

@@ -1,5 +1,5 @@
 -- The loop over the words: what holds between two of them, and each way on or out.
-use Rattle.std.proofs.Common.{◌≡◌, ℕ, ◌+◌, ◌-◌, ◌*◌, ◌<◌, ◌≤◌, List, length, drop, Option, Some, None, Ok, Err, sym, refl, ap, ◌∙◌, arith}
+use Rattle.std.proofs.Common.{◌≡◌, ℕ, ◌+◌, ◌-◌, ◌*◌, ◌<◌, ◌≤◌, List, drop, Option, Some, None, Ok, Err, sym, ap, ◌∙◌, arith}
 use native.Mathlib.Nat.{sub-zero}
 use Rattle.agreement.specs.Common.{Helper.for_halfword}
 use Rattle.agreement.specs.Translation.Decode32.{wrapping_add}
