@@ -85,10 +85,11 @@ impl<'a> X64Emitter<'a> {
         requires { HasRoom self.old (length (bytes_of 4 v)) }
         ensures { Writes self.old (bytes_of 4 v) self.new }
     {
-        self.emit_u8((v % 256) as u8);
-        self.emit_u8((v / 256 % 256) as u8);
-        self.emit_u8((v / 256 / 256 % 256) as u8);
-        self.emit_u8((v / 256 / 256 / 256 % 256) as u8);
+        let [a, b, c, d] = v.to_le_bytes();
+        self.emit_u8(a);
+        self.emit_u8(b);
+        self.emit_u8(c);
+        self.emit_u8(d);
     }
 
     // Least significant byte first (Intel SDM volume 1, "Bit and Byte Order"), one division a byte: after k bytes the quotient is

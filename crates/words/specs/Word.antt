@@ -133,9 +133,9 @@ abbrev pub op_body : Instruction → Word
 op_body k = by_family (λ o. goes_on (body_op o)) (λ _. not_emitted []) (λ _. not_emitted []) (not_emitted []) (not_emitted []) k
 
 -- the part of OP-IMM and OP-IMM-32 that works on R10; i: the immediate's 32 bits
-abbrev pub op_imm_body : Instruction → ℕ → ℕ → Word
-op_imm_body k imm12 i =
-    by_family (λ _. not_emitted []) (λ o. goes_on (body_op_imm o i (imm12 % 64) (imm12 % 32))) (λ _. not_emitted [])
+abbrev pub op_imm_body : Instruction → Decoded32 → ℕ → Word
+op_imm_body k d i =
+    by_family (λ _. not_emitted []) (λ o. goes_on (body_op_imm o i (d.imm12 % 64) (d.imm12 % 32))) (λ _. not_emitted [])
     (not_emitted []) (not_emitted []) k
 
 -- the part of BRANCH behind the comparison
@@ -148,15 +148,15 @@ abbrev pub kind_op_of : Width → ℕ → ℕ → Instruction
 kind_op_of R64 f s = kind_op f s
 kind_op_of R32 f s = kind_op32 f s
 
-abbrev pub kind_op_imm_of : Width → ℕ → ℕ → ℕ → Instruction
-kind_op_imm_of R64 f s imm12 = kind_op_imm f (imm12 / 64)
-kind_op_imm_of R32 f s imm12 = kind_op_imm32 f s
+abbrev pub kind_op_imm_of : Width → Decoded32 → Instruction
+kind_op_imm_of R64 d = kind_op_imm d.funct3 (d.imm12 / 64)
+kind_op_imm_of R32 d = kind_op_imm32 d.funct3 d.funct7
 
 abbrev pub op_word : Instruction → Decoded32 → Word
 op_word k d = finished (load_pair d.rs1 d.rs2) (op_body k) d.rd
 
 abbrev pub op_imm_word : Instruction → Decoded32 → ℕ → Word
-op_imm_word k d i = finished (load_reg R10 d.rs1 ∷ []) (op_imm_body k d.imm12 i) d.rd
+op_imm_word k d i = finished (load_reg R10 d.rs1 ∷ []) (op_imm_body k d i) d.rd
 
 abbrev pub branch_word : Instruction → Decoded32 → ℕ → ℕ → Word
 branch_word k d next target = behind (compare d.rs1 d.rs2) (branch_body k next target)
@@ -197,10 +197,6 @@ pops = pop R15 ∷ pop R14 ∷ pop R13 ∷ pop R12 ∷ pop RBP ∷ pop RBX ∷ [
 -- the first part of `passes`: what the block was entered with
 abbrev pub host_arguments : List Instr
 host_arguments = mov RDI R12 ∷ mov RSI R13 ∷ mov RDX R14 ∷ []
-
--- the last part of `passes`: the instruction i at pc, and the address a
-abbrev pub guest_arguments : ℕ → ℕ → ℕ → List Instr
-guest_arguments i pc a = mov_imm64 RCX i ∷ mov_imm64 R8 pc ∷ mov_imm64 RAX a ∷ []
 
 -- a helper end that calls the address a, behind n instructions
 abbrev pub helper_end : ℕ → ℕ → ℕ → ℕ → List Instr

@@ -4,7 +4,7 @@ ghost use Rattle.agreement.specs.X86.Form.{call_rax};
 ghost use Rattle.agreement.specs.X86.Encode.{bytes};
 ghost use Rattle.agreement.specs.Translation.Emit.{passes, add_count};
 ghost use Rattle.emitter.specs.Written.{Writes, HasRoom};
-ghost use Rattle.words.specs.Word.{host_arguments, guest_arguments, helper_end};
+ghost use Rattle.words.specs.Word.{host_arguments, helper_end};
 
 use crate::frame::x64_emit_epilogue;
 use emitter::{Alu, X64Emitter};
@@ -19,23 +19,15 @@ fn helper_arguments(em: &mut X64Emitter<'_>)
     em.mov_r64_r64(X64Emitter::RDX, X64Emitter::R14);
 }
 
-// The instruction, its pc, and the address to be called.
-fn helper_numbers(em: &mut X64Emitter<'_>, instr: u64, pc: u64, helper: u64)
-    requires { HasRoom em.old 30 }
-    ensures { Writes em.old (bytes (guest_arguments instr pc helper)) em.new }
-{
-    em.mov_r64_imm64(X64Emitter::RCX, instr);
-    em.mov_r64_imm64(X64Emitter::R8, pc);
-    em.mov_r64_imm64(X64Emitter::RAX, helper);
-}
-
-// The arguments, and the call.
+// The arguments, of which the last two are the instruction and its pc, and the call.
 fn helper_call(em: &mut X64Emitter<'_>, instr: u64, pc: u64, helper: u64)
     requires { HasRoom em.old 41 }
     ensures { Writes em.old (bytes (passes instr pc helper ++ call_rax ∷ [])) em.new }
 {
     helper_arguments(em);
-    helper_numbers(em, instr, pc, helper);
+    em.mov_r64_imm64(X64Emitter::RCX, instr);
+    em.mov_r64_imm64(X64Emitter::R8, pc);
+    em.mov_r64_imm64(X64Emitter::RAX, helper);
     em.call_rax();
 }
 

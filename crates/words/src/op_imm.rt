@@ -11,18 +11,13 @@ use decode::{Decoded32, isa};
 use emitter::{Alu, Shift, Width, X64Cc, X64Emitter};
 
 // OP-IMM on R10, the result in R10.
-fn op_imm_64_on_r10(
-    em: &mut X64Emitter<'_>,
-    funct3: u8,
-    imm12: u16,
-    imm: u32,
-) -> Option<X64EmitFlow>
+fn op_imm_64_on_r10(em: &mut X64Emitter<'_>, d: &Decoded32, imm: u32) -> Option<X64EmitFlow>
     requires { HasRoom em.old 14 }
-    ensures { Emits em.old (op_imm_body (kind_op_imm funct3 (imm12 / 64)) imm12 imm) em.new result }
+    ensures { Emits em.old (op_imm_body (kind_op_imm d.now.funct3 (d.now.imm12 / 64)) d.now imm) em.new result }
 {
-    let imm_hi = imm12 / 64;
-    let shamt = (imm12 % 64) as u8;
-    match funct3 {
+    let imm_hi = d.imm12 / 64;
+    let shamt = (d.imm12 % 64) as u8;
+    match d.funct3 {
         isa::F3_ADD_SUB => em.alu_r64_imm32(Alu::Add, X64Emitter::R10, imm),
         isa::F3_SLT => {
             em.alu_r64_imm32(Alu::Cmp, X64Emitter::R10, imm);
@@ -50,30 +45,24 @@ fn op_imm_64_on_r10(
 }
 
 // OP-IMM-32 on R10, the result in R10.
-fn op_imm_32_on_r10(
-    em: &mut X64Emitter<'_>,
-    funct3: u8,
-    funct7: u8,
-    imm12: u16,
-    imm: u32,
-) -> Option<X64EmitFlow>
+fn op_imm_32_on_r10(em: &mut X64Emitter<'_>, d: &Decoded32, imm: u32) -> Option<X64EmitFlow>
     requires { HasRoom em.old 14 }
-    ensures { Emits em.old (op_imm_body (kind_op_imm32 funct3 funct7) imm12 imm) em.new result }
+    ensures { Emits em.old (op_imm_body (kind_op_imm32 d.now.funct3 d.now.funct7) d.now imm) em.new result }
 {
-    let shamt = (imm12 % 32) as u8;
-    match funct3 {
+    let shamt = (d.imm12 % 32) as u8;
+    match d.funct3 {
         isa::F3_ADD_SUB => {
             em.alu_r64_imm32(Alu::Add, X64Emitter::R10, imm);
             sign_extended(em)
         }
-        isa::F3_SLL => match funct7 {
+        isa::F3_SLL => match d.funct7 {
             isa::F7_BASE => {
                 em.shift_imm8(Width::R32, Shift::Shl, X64Emitter::R10, shamt);
                 sign_extended(em)
             }
             _ => None,
         },
-        isa::F3_SRL_SRA => match funct7 {
+        isa::F3_SRL_SRA => match d.funct7 {
             isa::F7_BASE => {
                 em.shift_imm8(Width::R32, Shift::Shr, X64Emitter::R10, shamt);
                 sign_extended(em)
@@ -89,30 +78,23 @@ fn op_imm_32_on_r10(
 }
 
 // OP-IMM on R10, the result in R10; of 32 bits OP-IMM-32.
-fn op_imm_on_r10(
-    em: &mut X64Emitter<'_>,
-    w: Width,
-    funct3: u8,
-    funct7: u8,
-    imm12: u16,
-    imm: u32,
-) -> Option<X64EmitFlow>
+fn op_imm_on_r10(em: &mut X64Emitter<'_>, w: Width, d: &Decoded32, imm: u32) -> Option<X64EmitFlow>
     requires { HasRoom em.old 14 }
-    ensures { Emits em.old (op_imm_body (kind_op_imm_of w funct3 funct7 imm12) imm12 imm) em.new result }
+    ensures { Emits em.old (op_imm_body (kind_op_imm_of w d.now) d.now imm) em.new result }
 {
     match w {
-        Width::R64 => op_imm_64_on_r10(em, funct3, imm12, imm),
-        Width::R32 => op_imm_32_on_r10(em, funct3, funct7, imm12, imm),
+        Width::R64 => op_imm_64_on_r10(em, d, imm),
+        Width::R32 => op_imm_32_on_r10(em, d, imm),
     }
 }
 
 // OP-IMM; of 32 bits OP-IMM-32.
 pub fn op_imm_word(em: &mut X64Emitter<'_>, w: Width, d: Decoded32, imm: u32) -> Option<X64EmitFlow>
     requires { HasRoom em.old 34 }
-    ensures { Emits em.old (op_imm_word (kind_op_imm_of w d.funct3 d.funct7 d.imm12) d imm) em.new result }
+    ensures { Emits em.old (op_imm_word (kind_op_imm_of w d) d imm) em.new result }
 {
     x64_emit_load_reg(em, X64Emitter::R10, d.rs1);
-    let flow = op_imm_on_r10(em, w, d.funct3, d.funct7, d.imm12, imm)?;
+    let flow = op_imm_on_r10(em, w, &d, imm)?;
     x64_emit_store_reg(em, d.rd, X64Emitter::R10);
     Some(flow)
 }
