@@ -6,7 +6,7 @@ use Rattle.std.proofs.Common.{◌≡◌, refl, sym, ap, ◌∙◌, subst, Bool, 
 use Rattle.std.proofs.Common.{eqb, eqb-true, eq-eqb, ne_eqb}
 use Rattle.std.proofs.Math.Bool.{and-false}
 use borrow.Author.Tests.{eqb-false}
-use Rattle.entry.specs.Index.{free, is_in_use, keyed, holds, over_first, find, taken, mark_of, renewed, insert, insert_answer, empty}
+use Rattle.entry.specs.Index.{free, is_in_use, key_of, keyed, holds, over_first, find, taken, mark_of, renewed, insert, insert_answer, empty}
 use Rattle.entry.specs.History.{Event, Event.inserted, Event.refused, Event.emptied, last, Operation, Operation.inserts}
 use Rattle.entry.specs.History.{Operation.empties, after, outcome, events, showing, Distinct, ShowsLast, History}
 use Rattle.entry.specs.declared.Key.{Key}
@@ -15,9 +15,6 @@ use Rattle.entry.specs.declared.NativeBlock.{NativeBlock}
 use Rattle.entry.proofs.Scans.{found_none, over_none, changed, over_found, over_alone, over_other}
 
 -- 1. Keys
-
-abbrev key_of : Entry → Key
-key_of e = record { satp = e.satp; pc = e.pc }
 
 abbrev same : Key → Key → Bool
 same j k = eqb j.satp k.satp && eqb j.pc k.pc

@@ -19,6 +19,9 @@ free e = eqb e.in_use 0
 abbrev pub is_in_use : Entry → Bool
 is_in_use e = not (free e)
 
+abbrev pub key_of : Entry → Key
+key_of e = record { satp = e.satp; pc = e.pc }
+
 -- with that key; in use, with that key
 abbrev pub keyed : Key → Entry → Bool
 keyed k e = eqb e.satp k.satp && eqb e.pc k.pc

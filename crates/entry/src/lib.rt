@@ -13,7 +13,7 @@ pub struct Key {
 
 // `NativeBlock` of src/hart.rs: where a block stands in the code store, and how many guest instructions it has. Nothing is range-checked.
 #[repr(C)]
-#[derive(Clone, Copy, PartialEq, Eq)]
+#[derive(Clone, Copy)]
 pub struct NativeBlock {
     pub offset: usize,
     pub count: u32,
@@ -21,7 +21,7 @@ pub struct NativeBlock {
 
 // A block under its key. The mark is a number, so that whatever a caller of another language puts there is one: 0 is not in use.
 #[repr(C)]
-#[derive(Clone, Copy, PartialEq, Eq)]
+#[derive(Clone, Copy)]
 pub struct Entry {
     pub satp: u64,
     pub pc: u64,
@@ -48,6 +48,15 @@ impl Default for Entry {
 }
 
 impl Entry {
+    pub fn key(&self) -> Key
+        ensures { result ≡ Index.key_of self.now }
+    {
+        Key {
+            satp: self.satp,
+            pc: self.pc,
+        }
+    }
+
     pub fn is_in_use(&self) -> bool
         ensures { result ≡ Index.is_in_use self.now }
     {
@@ -58,6 +67,6 @@ impl Entry {
     pub fn holds(&self, key: Key) -> bool
         ensures { result ≡ Index.holds key self.now }
     {
-        self.is_in_use() && self.satp == key.satp && self.pc == key.pc
+        self.is_in_use() && self.key() == key
     }
 }

@@ -35,7 +35,8 @@ fn vacant(entries: &[Entry]) -> Option<usize>
     entries.iter().position(|e| !e.is_in_use())
 }
 
-// The index of the entry that a block with this key goes to.
+// The index of the entry that a block with this key goes to. A `match`: of what the closure that `or_else` takes returned the proof learns
+// nothing.
 fn slot_for(entries: &[Entry], key: Key) -> Option<usize>
     ensures { result ≡ position (taken entries.now key) entries.now }
 {
