@@ -8,7 +8,7 @@ close-count-requires c =
     let w = c.emit_words-walked.ensures in (
       w.emitted_le_most_steps,
       room_to_close c.args.steps c.args.start c.args.halfwords.now c.requires.0 (rw (c.new-em.ensures.output, c.new-em.ensures.place) c.requires.1)
-      c.new-em.ensures.place c.x64_emit_prologue.ensures w.walks,
+          c.new-em.ensures.place c.x64_emit_prologue.ensures w.walks,
     )
 
 pub returns : goal.returns

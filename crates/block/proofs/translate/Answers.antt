@@ -1,5 +1,5 @@
 -- Each way through the tests is one of ReplyLaws.
-use Rattle.std.proofs.Common.{refl, sym}
+use Rattle.std.proofs.Common.{refl}
 use Rattle.std.proofs.lemmas.Result.{err_from_is_err_and}
 use Rattle.block.proofs.ReplyLaws.{if_limit_zero, if_odd_start, if_first, limit_zero_lem, odd_start_lem, first_refused, begun}
 use Rattle.block.proofs.ReplyLaws.{output_short_lem, made}

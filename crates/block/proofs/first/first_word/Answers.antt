@@ -17,8 +17,8 @@ returns-in-Half c = ap refused (first_is c.args.halfwords.now (rw c.in-Half.is a
 pub returns-in-NotTaken : goal.returns-in-NotTaken
 returns-in-NotTaken c =
     ap refused (
-      word_first NotTaken c.in-Word.instr (rw c.in-NotTaken.is at c.word_kind.ensures)
-      ∙ first_is c.args.halfwords.now (rw c.in-Word.is at c.in_ok-fetch.ensures)
+    word_first NotTaken c.in-Word.instr (rw c.in-NotTaken.is at c.word_kind.ensures)
+    ∙ first_is c.args.halfwords.now (rw c.in-Word.is at c.in_ok-fetch.ensures)
     )
 
 pub returns-in-Straight : goal.returns-in-Straight
@@ -26,7 +26,7 @@ returns-in-Straight c =
     let k = c.word_kind.result in
     let w = c.in-Word.instr in
     ap refused (
-      sym (begun k w c.in-Straight.is)
-      ∙ word_first k w c.word_kind.ensures
-      ∙ first_is c.args.halfwords.now (rw c.in-Word.is at c.in_ok-fetch.ensures)
+    sym (begun k w c.in-Straight.is)
+    ∙ word_first k w c.word_kind.ensures
+    ∙ first_is c.args.halfwords.now (rw c.in-Word.is at c.in_ok-fetch.ensures)
     )
