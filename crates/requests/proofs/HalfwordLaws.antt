@@ -3,11 +3,11 @@ use Rattle.std.proofs.Common.{◌≡◌, ◌∙◌, List, [], ◌∷◌, ◌++�
 use Rattle.std.proofs.Common.{le-leb, length, take, set, length-set, take-suc-set, Option, None, Some}
 use borrow.Author.Tests.{lt-leb}
 use Rattle.requests.specs.declared.fields.Fields.{Fields}
-use Rattle.requests.specs.Fields.{Reads, word_at}
-use Rattle.requests.specs.Halfwords.{halfword_at, list_at, Lists}
+use Rattle.requests.specs.Fields.{Passes, word_at}
+use Rattle.requests.specs.Halfwords.{halfword_at, list_at, Reads}
 
-pub lists_none : {list : Option (List ℕ)} {lent : List ℕ} {r : Option ℕ} → None ≡ list → r ≡ None → Lists list lent r
-lists_none e p = record { halfwords = rw p e; fits = rw p tt }
+pub reads_none : {list : Option (List ℕ)} {lent : List ℕ} {r : Option ℕ} → None ≡ list → r ≡ None → Reads list lent r
+reads_none e p = record { halfwords = rw p e; fits = rw p tt }
 
 -- the halfwords of the list at `start` that stand before `here` are read: they are the first `n` of the lent ones
 pub record Read (room : ℕ) (start : Fields) (lent : List ℕ) (n : ℕ) (here : Fields) : Type 0 where
@@ -28,11 +28,11 @@ module _ {room : ℕ} {start : Fields} {lent : List ℕ} {n : ℕ} {here : Field
     unfolding list_at
     no_halfword p = rw (read.list, one_more, ← p)
 
-    module _ {value : ℕ} {behind : Fields} (halfword : Reads halfword_at here behind (Some value)) where
+    module _ {value : ℕ} {behind : Fields} (halfword : Passes halfword_at here behind (Some value)) where
       with_it : take (n + 1) (set lent n value) ≡ take n lent ++ (value ∷ [])
       with_it = rw add-one (take-suc-set lent n value (omega (arith, read.size)))
 
-      pub at_the_end : length behind.line.now ≤ behind.at → Lists (list_at room start.line.now start.at []) (set lent n value) (Some (n + 1))
+      pub at_the_end : length behind.line.now ≤ behind.at → Reads (list_at room start.line.now start.at []) (set lent n value) (Some (n + 1))
       unfolding list_at
       at_the_end p =
           let end : length here.line.now ≤ behind.at = rw (← halfword.line) p in
@@ -51,7 +51,7 @@ module _ {room : ℕ} {start : Fields} {lent : List ℕ} {n : ℕ} {here : Field
             let none : None ≡ word_at (44 ∷ []) here.line.now behind.at = rw (← halfword.line) p in
             rw (read.list, one_more, ← halfword.field, lt-leb (length here.line.now) behind.at go_on, ← none)
 
-        pub at_a_comma : {next : Fields} → Reads (word_at (44 ∷ [])) behind next (Some tt) → Read room start (set lent n value) (n + 1) next
+        pub at_a_comma : {next : Fields} → Passes (word_at (44 ∷ [])) behind next (Some tt) → Read room start (set lent n value) (n + 1) next
         unfolding list_at
         at_a_comma {next} comma =
             let line : next.line ≡ here.line = comma.line ∙ halfword.line in
@@ -62,4 +62,4 @@ module _ {room : ℕ} {start : Fields} {lent : List ℕ} {n : ℕ} {here : Field
               list = rw (read.list, one_more, ← halfword.field, lt-leb (length here.line.now) behind.at go_on, ← there, with_it, line);
             }
 
-pub ruleset list_steps = (lists_none, no_room, no_halfword, no_comma)
+pub ruleset list_steps = (reads_none, no_room, no_halfword, no_comma)

@@ -20,7 +20,7 @@ pub record Field (A : Type 0) : Type 0 where
   pub next : ℕ
 
 -- the code reads what a definition gives at its place, and is then behind it
-pub record Reads {A : Type 0} (definition : List ℕ → ℕ → Option (Field A)) (before after : Fields) (r : Option A) : Type 0 where
+pub record Passes {A : Type 0} (definition : List ℕ → ℕ → Option (Field A)) (before after : Fields) (r : Option A) : Type 0 where
   pub field : option_map (λ v. record { value = v; next = after.at }) r ≡ definition before.line.now before.at
   pub line : after.line ≡ before.line
 

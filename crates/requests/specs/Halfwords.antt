@@ -28,6 +28,6 @@ unfoldable pub run_at : (room : ℕ) (line : List ℕ) (at : ℕ) → Option (Li
 run_at room line at = cond (is_dash line at) (Some []) (list_at room line at [])
 
 -- how many halfwords there are, and the lent halfwords hold them at their front
-pub record Lists (list : Option (List ℕ)) (lent : List ℕ) (r : Option ℕ) : Type 0 where
+pub record Reads (list : Option (List ℕ)) (lent : List ℕ) (r : Option ℕ) : Type 0 where
   pub halfwords : option_map (λ n. take n lent) r ≡ list
   pub fits : IfSome r (λ n. n ≤ length lent)

@@ -1,6 +1,6 @@
 // The fields of a request line: numbers, a space before each but the first.
 ghost use Rattle.std.specs.Prelude.{◌≡◌, ◌<◌, ◌≤◌, ◌-◌, ◌^◌, length, get_or, IfSome, IsSome, SomeIff};
-ghost use Rattle.requests.specs.Fields.{digit_of, Reads, number_at, word_at, next_number, next_at_most, end_at};
+ghost use Rattle.requests.specs.Fields.{digit_of, Passes, number_at, word_at, next_number, next_at_most, end_at};
 
 // A line, and the place from which on it is read.
 #[derive(Clone, Copy)]
@@ -27,7 +27,7 @@ impl<'a> Fields<'a> {
     pub fn number(&mut self, base: u32) -> Option<u64>
         requires low { 2 ≤ base }
         requires high { base ≤ 16 }
-        ensures number { Reads (number_at base) self.old self.new result }
+        ensures number { Passes (number_at base) self.old self.new result }
         ensures behind { IfSome result (λ _. self.old.at < self.new.at) }
     {
         let from = self.at;
@@ -42,7 +42,7 @@ impl<'a> Fields<'a> {
     // Passes the word, where it stands at the place.
     #[tactic(auto, unfolding(crate::specs::Fields::word_at))]
     pub fn pass(&mut self, word: &[u8]) -> Option<()>
-        ensures { Reads (word_at word.now) self.old self.new result }
+        ensures { Passes (word_at word.now) self.old self.new result }
     {
         if !self.line.get(self.at..)?.starts_with(word) {
             return None;
@@ -56,7 +56,7 @@ impl<'a> Fields<'a> {
     pub fn next_number(&mut self, base: u32) -> Option<u64>
         requires low { 2 ≤ base }
         requires high { base ≤ 16 }
-        ensures { Reads (next_number base) self.old self.new result }
+        ensures { Passes (next_number base) self.old self.new result }
     {
         self.pass(b" ")?;
         self.number(base)
@@ -65,7 +65,7 @@ impl<'a> Fields<'a> {
     // A space and a decimal number that is not above the greatest.
     #[tactic(auto, unfolding(crate::specs::Fields::next_at_most))]
     pub fn next_at_most(&mut self, greatest: u64) -> Option<u64>
-        ensures number { Reads (next_at_most greatest) self.old self.new result }
+        ensures number { Passes (next_at_most greatest) self.old self.new result }
         ensures fits { IfSome result (λ n. n ≤ greatest) }
     {
         let number = self.next_number(10)?;
@@ -75,7 +75,7 @@ impl<'a> Fields<'a> {
     // A space and a decimal number of 32 bits.
     #[tactic(auto, unfolding(crate::specs::Fields::next_at_most))]
     pub fn next_u32(&mut self) -> Option<u32>
-        ensures { Reads (next_at_most (2 ^ 32 - 1)) self.old self.new result }
+        ensures { Passes (next_at_most (2 ^ 32 - 1)) self.old self.new result }
     {
         u32::try_from(self.next_number(10)?).ok()
     }

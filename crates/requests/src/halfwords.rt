@@ -1,7 +1,7 @@
 // The halfwords of a line: four hexadecimal digits each, a comma between two, or a dash where there are none.
 ghost use Rattle.std.specs.Prelude.{◌≡◌, [], length};
-ghost use Rattle.requests.specs.Fields.{Reads};
-ghost use Rattle.requests.specs.Halfwords.{halfword_at, list_at, is_dash, run_at, Lists};
+ghost use Rattle.requests.specs.Fields.{Passes};
+ghost use Rattle.requests.specs.Halfwords.{halfword_at, list_at, is_dash, run_at, Reads};
 
 use crate::fields::Fields;
 
@@ -9,7 +9,7 @@ impl<'a> Fields<'a> {
     // Four digits.
     #[tactic(auto, unfolding(crate::specs::Halfwords::halfword_at))]
     fn halfword(&mut self) -> Option<u16>
-        ensures { Reads halfword_at self.old self.new result }
+        ensures { Passes halfword_at self.old self.new result }
     {
         let from = self.at;
         let number = self.number(16)?;
@@ -19,7 +19,7 @@ impl<'a> Fields<'a> {
     // A list of more halfwords than are lent is no list.
     #[tactic(auto, using(crate::proofs::HalfwordLaws::list_steps))]
     fn list(mut self, lent: &mut [u16]) -> Option<usize>
-        ensures { Lists (list_at (length lent.old) self.entry.line.now self.entry.at []) lent.new result }
+        ensures { Reads (list_at (length lent.old) self.entry.line.now self.entry.at []) lent.new result }
     {
         for (i, halfword) in lent.iter_mut().enumerate() {
             *halfword = self.halfword()?;
@@ -41,7 +41,7 @@ impl<'a> Fields<'a> {
     // The halfwords up to the line's end, and how many there are.
     #[tactic(auto, unfolding(crate::specs::Halfwords::run_at))]
     pub fn halfwords(self, lent: &mut [u16]) -> Option<usize>
-        ensures { Lists (run_at (length lent.old) self.entry.line.now self.entry.at) lent.new result }
+        ensures { Reads (run_at (length lent.old) self.entry.line.now self.entry.at) lent.new result }
     {
         if self.is_dash() {
             Some(0)

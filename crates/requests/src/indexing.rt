@@ -1,7 +1,7 @@
 // I lines, about the index of blocks: new <n>, set <slot> <use> <satp hex> <pc hex> <offset> <count>,
 // insert <satp hex> <pc hex> <offset> <count>, find <satp hex> <pc hex>, empty, show
 ghost use Rattle.std.specs.Prelude.{◌≡◌, IfSome};
-ghost use Rattle.requests.specs.Fields.{Reads};
+ghost use Rattle.requests.specs.Fields.{Passes};
 ghost use Rattle.requests.specs.Indexing.{block_at, new_of, set_of, insert_of, find_of, alone_of, indexing_of, Fits};
 
 use crate::fields::Fields;
@@ -42,7 +42,7 @@ const ENTRIES: u64 = 64;
 impl<'a> Fields<'a> {
     #[tactic(auto, unfolding(crate::specs::Indexing::block_at))]
     fn block(&mut self) -> Option<KeyedBlock>
-        ensures { Reads block_at self.old self.new result }
+        ensures { Passes block_at self.old self.new result }
     {
         let satp = self.next_number(16)?;
         let pc = self.next_number(16)?;
