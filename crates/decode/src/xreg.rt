@@ -40,6 +40,6 @@ impl XReg {
     pub fn is_x0(self) -> bool
         ensures { result ≡ (self == 0) }
     {
-        self.number == 0
+        0 == self.number
     }
 }

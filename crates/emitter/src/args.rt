@@ -12,7 +12,7 @@ pub enum Width {
 
 impl Width {
     // `(w as u8) << 3`
-    pub fn rex_w(self) -> u8
+    pub(crate) fn rex_w(self) -> u8
         ensures { (result ≡ cond (is_64 self) 8 0) × (result ≤ 8) }
     {
         match self {

@@ -100,7 +100,7 @@ pub const JCC_REL8: Form = Form(0x70, 0);
 
 // The rows of an operation: with a register, with four bytes, with one byte, by CL.
 impl Alu {
-    pub fn with_register(self) -> Form
+    pub(crate) fn with_register(self) -> Form
         ensures { IsForm (8 * digit (alu_of self) + 1) 0 result }
     {
         match self {
@@ -113,7 +113,7 @@ impl Alu {
         }
     }
 
-    pub fn with_imm32(self) -> Form
+    pub(crate) fn with_imm32(self) -> Form
         ensures { IsForm 0x81 (digit (alu_of self)) result }
     {
         match self {
@@ -126,7 +126,7 @@ impl Alu {
         }
     }
 
-    pub fn with_imm8(self) -> Form
+    pub(crate) fn with_imm8(self) -> Form
         ensures { IsForm 0x83 (digit (alu_of self)) result }
     {
         match self {
@@ -141,7 +141,7 @@ impl Alu {
 }
 
 impl Shift {
-    pub fn by_cl(self) -> Form
+    pub(crate) fn by_cl(self) -> Form
         ensures { IsForm 0xD3 (shift_digit (shift_of self)) result }
     {
         match self {
@@ -151,7 +151,7 @@ impl Shift {
         }
     }
 
-    pub fn by_imm8(self) -> Form
+    pub(crate) fn by_imm8(self) -> Form
         ensures { IsForm 0xC1 (shift_digit (shift_of self)) result }
     {
         match self {
@@ -163,7 +163,7 @@ impl Shift {
 }
 
 impl MulDiv {
-    pub fn form(self) -> Form
+    pub(crate) fn form(self) -> Form
         ensures { IsForm 0xF7 (mul_div_digit (mul_div_of self)) result }
     {
         match self {
