@@ -14,7 +14,8 @@ use entry::{Entry, Key, NativeBlock};
 use index::Full;
 use store::{NativeCodeCache, Placed, Refused};
 
-// Document 01, "Replies": the number, 0 where there is none, and its values, 0 where there are fewer.
+// Document 01, "Replies": the number, 0 where there is none, and its values, 0 where there are fewer. Numbers, and below satp and pc by
+// themselves, since C calls this.
 #[repr(C)]
 #[derive(Clone, Copy)]
 pub struct Reply {

@@ -1,5 +1,6 @@
 // src/isa.rs of the Rust: the opcode, funct3 and funct7 values that the translator tests, under its names.
 // RISC-V Unprivileged manual, "RV32/64G Instruction Set Listings". As u8, the width of Decoded32's fields.
+// Numbers and no enums: they are fields of a word, most values of which have no name here, and the Rust's file has them so.
 
 // Opcodes (instr[6:0])
 pub const OPCODE_LUI: u8 = 0b0110111;

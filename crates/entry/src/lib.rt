@@ -19,7 +19,7 @@ pub struct NativeBlock {
     pub count: u32,
 }
 
-// A block under its key. The mark is a number, so that whatever a caller of another language puts there is one: 0 is not in use.
+// A block under its key, whose parts C reads. The mark is a number, so that whatever a caller of another language puts there is one: 0 is not in use.
 #[repr(C)]
 #[derive(Clone, Copy)]
 pub struct Entry {

@@ -121,7 +121,7 @@ impl Family {
     }
 }
 
-// The class of a funct7, 0 to 4.
+// The class of a funct7, 0 to 4: a number, since it counts bits of `taken`, and document 02 numbers the classes at Q-9.
 pub fn class(funct7: u8) -> u8
     ensures { (result ≡ class_of funct7) × (result ≤ 4) }
 {

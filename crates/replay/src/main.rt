@@ -50,7 +50,8 @@ fn reply<W: Write>(line: &[u8], table: &mut Table, to: &mut Output<W>) -> Option
     }
 }
 
-// The line so far. Where it has more bytes than there is place for, its length is not kept: it is no request.
+// The line so far: an array with its length, since no program allocates. Where it has more bytes than there is place for, its length is not
+// kept: it is no request.
 #[derive(Drop)]
 struct Line {
     bytes: [u8; 8192],

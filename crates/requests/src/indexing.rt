@@ -28,6 +28,7 @@ pub enum Indexing {
     Insert {
         block: KeyedBlock,
     },
+    // Two numbers: requests has no dependency, and the key is crate entry's.
     Find {
         satp: u64,
         pc: u64,

@@ -8,6 +8,7 @@ use entry::{Entry, Key, NativeBlock};
 use index::Full;
 use store::NativeCodeCache;
 
+// An array with its count, and no `Vec`: no program allocates.
 #[derive(Clone, Copy)]
 pub struct Table {
     pub entries: [Entry; 64],

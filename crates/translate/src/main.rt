@@ -16,7 +16,8 @@ fn low_and_high(low: u8, high: u8) -> u16
     u16::from_le_bytes([low, high])
 }
 
-// The halfwords of the code, little-endian, and how many they are.
+// The halfwords of the code, little-endian, and how many they are. By index: over `iter_mut().zip(chunks_exact(2))`, for which std has no law,
+// the proof did not close.
 fn read_halfwords(code: &[u8], halfwords: &mut [u16]) -> usize
     requires { length code.now ≤ 2 * length halfwords.old }
     ensures halfwords_after { take result halfwords.new ≡ halfwords_of code.now }
@@ -54,7 +55,7 @@ fn block_of(code: &[u8], out: &mut [u8]) -> usize
     block_length(answer)
 }
 
-// Reads until `buf` is full or the input ends, and says how many bytes stand at its front.
+// Reads until `buf` is full or the input ends, and says how many bytes stand at its front. std has no such read without a heap.
 fn read_full<R: Read>(reader: &mut R, buf: &mut [u8]) -> io::Result<usize>
     ensures { IfOk result (λ n. IsPrefixLen n buf.new) }
 {

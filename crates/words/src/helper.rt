@@ -19,7 +19,8 @@ fn helper_arguments(em: &mut X64Emitter<'_>)
     em.mov_r64_r64(X64Emitter::RDX, X64Emitter::R14);
 }
 
-// The arguments, of which the last two are the instruction and its pc, and the call.
+// The arguments, of which the last two are the instruction and its pc, and the call. These two stay two, here and in the walk: each is
+// used by itself, as in the Rust.
 fn helper_call(em: &mut X64Emitter<'_>, instr: u64, pc: u64, helper: u64)
     requires { HasRoom em.old 41 }
     ensures { Writes em.old (bytes (passes instr pc helper ++ call_rax ∷ [])) em.new }

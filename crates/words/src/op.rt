@@ -1,4 +1,6 @@
 // The arms OPCODE_OP and OPCODE_OP_32. The Rust matches on the pair of funct7 and funct3; here on funct7, then on funct3.
+// The two opcodes take different words, and those of 32 bits end in a sign extension: one function for both would ask for the width in
+// nearly every arm, so each has its own, as in the Rust.
 ghost use Rattle.std.specs.Prelude.{[], ◌∷◌};
 ghost use Rattle.agreement.specs.X86.Encode.{bytes};
 ghost use Rattle.agreement.specs.X86.Form.{alu_imm8, and, RCX, R11, mov};
