@@ -290,6 +290,7 @@ impl<'a> X64Emitter<'a> {
         self.emit_u32(imm);
     }
 
+    // PUSH and POP: two functions, since they are two instructions of X86/Form and one would need a choice made for it.
     pub fn push_r64(&mut self, reg: Gpr)
         requires { HasRoom self.old (length (encode (push reg))) }
         ensures { Writes self.old (encode (push reg)) self.new }

@@ -1,4 +1,4 @@
-// The arms OPCODE_OP_IMM and OPCODE_OP_IMM_32. A shift is taken by the bits above its amount.
+// The arms OPCODE_OP_IMM and OPCODE_OP_IMM_32. A shift is taken by the bits above its amount. The two take different words, as in op.rt.
 ghost use Rattle.std.specs.Prelude.{◌/◌};
 ghost use Rattle.agreement.specs.Translation.Kind.{kind_op_imm, kind_op_imm32};
 ghost use Rattle.emitter.specs.Written.{HasRoom};
