@@ -4,6 +4,8 @@
 // output at exit is the output at entry with exactly the bytes of the instruction (crate agreement, X86/Encode) at the emitter's place,
 // which moves behind them.
 // Immediates and displacements are unsigned in two's complement.
+// What writes is inlined, here and in the crates above, up to the function that translates: where the emitter stands in memory, a byte that is
+// written may be its place for all the compiler knows, and translating took five times as long (docs/PERFORMANCE.md).
 #![tactic(auto)]
 
 mod args;
@@ -73,6 +75,7 @@ impl<'a> X64Emitter<'a> {
         X64Emitter { out, at: 0 }
     }
 
+    #[inline(always)]
     fn emit_u8(&mut self, b: u8)
         requires { HasRoom self.old (length (b ∷ [])) }
         ensures { Writes self.old (b ∷ []) self.new }
@@ -81,6 +84,7 @@ impl<'a> X64Emitter<'a> {
         self.at += 1;
     }
 
+    #[inline(always)]
     fn emit_u32(&mut self, v: u32)
         requires { HasRoom self.old (length (bytes_of 4 v)) }
         ensures { Writes self.old (bytes_of 4 v) self.new }
@@ -94,6 +98,7 @@ impl<'a> X64Emitter<'a> {
 
     // Least significant byte first (Intel SDM volume 1, "Bit and Byte Order"), one division a byte: after k bytes the quotient is
     // v / 256 ^ k. This is proved, as the loop's invariant: `RunningQuotient` in specs/Quotient.
+    #[inline(always)]
     fn emit_u64(&mut self, v: u64)
         requires { HasRoom self.old (length (bytes_of 8 v)) }
         ensures { Writes self.old (bytes_of 8 v) self.new }
@@ -106,6 +111,7 @@ impl<'a> X64Emitter<'a> {
     }
 
     // A bare 0x40 is left out.
+    #[inline(always)]
     fn emit_rex(&mut self, w: Width, r: u8, x: u8, b: u8)
         requires { (r < 16) × (x < 16) × (b < 16) × HasRoom self.old (length (rex_bytes w r x b)) }
         ensures { Writes self.old (rex_bytes w r x b) self.new }
@@ -116,6 +122,7 @@ impl<'a> X64Emitter<'a> {
         }
     }
 
+    #[inline(always)]
     fn emit_modrm(&mut self, mode: u8, reg: u8, rm: u8)
         requires { (mode < 4) × HasRoom self.old (length (modrm mode reg rm ∷ [])) }
         ensures { Writes self.old (modrm mode reg rm ∷ []) self.new }
@@ -123,6 +130,7 @@ impl<'a> X64Emitter<'a> {
         self.emit_u8(64 * mode + 8 * (reg % 8) + rm % 8);
     }
 
+    #[inline(always)]
     fn emit_sib(&mut self, scale: u8, index: u8, base: u8)
         requires { (scale < 4) × HasRoom self.old (length (modrm scale index base ∷ [])) }
         ensures { Writes self.old (modrm scale index base ∷ []) self.new }
@@ -131,6 +139,7 @@ impl<'a> X64Emitter<'a> {
     }
 
     // ModRM, SIB without an index, displacement.
+    #[inline(always)]
     fn emit_mem_sib(&mut self, reg_field: u8, base: u8, disp: u32)
         requires { HasRoom self.old (length (mem_sib reg_field base disp)) }
         ensures { Writes self.old (mem_sib reg_field base disp) self.new }
@@ -141,6 +150,7 @@ impl<'a> X64Emitter<'a> {
     }
 
     // ModRM, displacement.
+    #[inline(always)]
     fn emit_mem_plain(&mut self, reg_field: u8, base: u8, disp: u32)
         requires { HasRoom self.old (length (mem_plain reg_field base disp)) }
         ensures { Writes self.old (mem_plain reg_field base disp) self.new }
@@ -150,6 +160,7 @@ impl<'a> X64Emitter<'a> {
     }
 
     // [base + disp]: a base with low bits 4 takes a SIB byte.
+    #[inline(always)]
     fn emit_mem_disp32(&mut self, reg_field: u8, base: u8, disp: u32)
         requires { HasRoom self.old (length (mod_mem reg_field base disp)) }
         ensures { Writes self.old (mod_mem reg_field base disp) self.new }
@@ -162,6 +173,7 @@ impl<'a> X64Emitter<'a> {
     }
 
     // The form's opcode.
+    #[inline(always)]
     fn emit_opcode(&mut self, form: Form)
         requires { HasRoom self.old (length (opcode_of form ∷ [])) }
         ensures { Writes self.old (opcode_of form ∷ []) self.new }
@@ -170,6 +182,7 @@ impl<'a> X64Emitter<'a> {
     }
 
     // The form's opcode with a register or a condition added to it.
+    #[inline(always)]
     fn emit_opcode_plus(&mut self, form: Form, plus: u8)
         requires { (opcode_of form + plus < 256) × HasRoom self.old (length ((opcode_of form + plus) ∷ [])) }
         ensures { Writes self.old ((opcode_of form + plus) ∷ []) self.new }
@@ -178,6 +191,7 @@ impl<'a> X64Emitter<'a> {
     }
 
     // ModRM with the form's digit.
+    #[inline(always)]
     fn emit_digit(&mut self, form: Form, rm: u8)
         requires { HasRoom self.old (length (mod_reg (digit_of form) rm ∷ [])) }
         ensures { Writes self.old (mod_reg (digit_of form) rm ∷ []) self.new }
@@ -187,6 +201,7 @@ impl<'a> X64Emitter<'a> {
 
     // The shapes of a form, one function each; one without a digit takes no row of the table that has one.
     // A register in the opcode.
+    #[inline(always)]
     fn form_reg(&mut self, form: Form, w: Width, reg: Gpr)
         requires { (digit_of form ≡ 0) × (opcode_of form < 249) × HasRoom self.old (length (opcode_reg form w reg)) }
         ensures { Writes self.old (opcode_reg form w reg) self.new }
@@ -197,6 +212,7 @@ impl<'a> X64Emitter<'a> {
     }
 
     // Two registers.
+    #[inline(always)]
     fn form_reg_rm(&mut self, form: Form, w: Width, reg: Gpr, rm: Gpr)
         requires { (digit_of form ≡ 0) × HasRoom self.old (length (reg_rm form w reg rm)) }
         ensures { Writes self.old (reg_rm form w reg rm) self.new }
@@ -209,6 +225,7 @@ impl<'a> X64Emitter<'a> {
     }
 
     // Two registers behind 0F.
+    #[inline(always)]
     fn form_0f_reg_rm(&mut self, form: Form, plus: u8, w: Width, reg: Gpr, rm: Gpr)
         requires { (digit_of form ≡ 0) × (opcode_of form + plus < 256) × HasRoom self.old (length (reg_rm_0f form plus w reg rm)) }
         ensures { Writes self.old (reg_rm_0f form plus w reg rm) self.new }
@@ -222,6 +239,7 @@ impl<'a> X64Emitter<'a> {
     }
 
     // AL behind 0F.
+    #[inline(always)]
     fn form_0f_al(&mut self, form: Form, plus: u8)
         requires { (digit_of form ≡ 0) × (opcode_of form + plus < 256) × HasRoom self.old (length (al_0f form plus)) }
         ensures { Writes self.old (al_0f form plus) self.new }
@@ -232,6 +250,7 @@ impl<'a> X64Emitter<'a> {
     }
 
     // A register and memory.
+    #[inline(always)]
     fn form_reg_mem(&mut self, form: Form, reg: Gpr, base: Gpr, disp: u32)
         requires { (digit_of form ≡ 0) × HasRoom self.old (length (reg_mem form reg base disp)) }
         ensures { Writes self.old (reg_mem form reg base disp) self.new }
@@ -244,6 +263,7 @@ impl<'a> X64Emitter<'a> {
     }
 
     // No operand.
+    #[inline(always)]
     fn form_bare(&mut self, form: Form, w: Width)
         requires { (digit_of form ≡ 0) × HasRoom self.old (length (bare form w)) }
         ensures { Writes self.old (bare form w) self.new }
@@ -253,6 +273,7 @@ impl<'a> X64Emitter<'a> {
     }
 
     // A condition in the opcode, and how many bytes behind the jump are skipped: a displacement that is not negative.
+    #[inline(always)]
     fn form_jump(&mut self, form: Form, plus: u8, rel: u8)
         requires { (digit_of form ≡ 0) × (opcode_of form + plus < 256) × (rel < 128) × HasRoom self.old (length (jump form plus rel)) }
         ensures { Writes self.old (jump form plus rel) self.new }
@@ -262,6 +283,7 @@ impl<'a> X64Emitter<'a> {
     }
 
     // A register with a digit.
+    #[inline(always)]
     fn form_digit_rm(&mut self, form: Form, w: Width, rm: Gpr)
         requires { HasRoom self.old (length (digit_rm form w rm)) }
         ensures { Writes self.old (digit_rm form w rm) self.new }
@@ -273,6 +295,7 @@ impl<'a> X64Emitter<'a> {
     }
 
     // A register with a digit, and a byte.
+    #[inline(always)]
     fn form_digit_rm_imm8(&mut self, form: Form, w: Width, rm: Gpr, imm: u8)
         requires { HasRoom self.old (length (digit_rm_imm8 form w rm imm)) }
         ensures { Writes self.old (digit_rm_imm8 form w rm imm) self.new }
@@ -282,6 +305,7 @@ impl<'a> X64Emitter<'a> {
     }
 
     // A register with a digit, and four bytes.
+    #[inline(always)]
     fn form_digit_rm_imm32(&mut self, form: Form, rm: Gpr, imm: u32)
         requires { HasRoom self.old (length (digit_rm_imm32 form rm imm)) }
         ensures { Writes self.old (digit_rm_imm32 form rm imm) self.new }
@@ -291,6 +315,7 @@ impl<'a> X64Emitter<'a> {
     }
 
     // PUSH and POP: two functions, since they are two instructions of X86/Form and one would need a choice made for it.
+    #[inline(always)]
     pub fn push_r64(&mut self, reg: Gpr)
         requires { HasRoom self.old (length (encode (push reg))) }
         ensures { Writes self.old (encode (push reg)) self.new }
@@ -298,6 +323,7 @@ impl<'a> X64Emitter<'a> {
         self.form_reg(forms::PUSH_R64, Width::R32, reg);
     }
 
+    #[inline(always)]
     pub fn pop_r64(&mut self, reg: Gpr)
         requires { HasRoom self.old (length (encode (pop reg))) }
         ensures { Writes self.old (encode (pop reg)) self.new }
@@ -305,6 +331,7 @@ impl<'a> X64Emitter<'a> {
         self.form_reg(forms::POP_R64, Width::R32, reg);
     }
 
+    #[inline(always)]
     pub fn mov_r64_r64(&mut self, dst: Gpr, src: Gpr)
         requires { HasRoom self.old (length (encode (mov dst src))) }
         ensures { Writes self.old (encode (mov dst src)) self.new }
@@ -312,6 +339,7 @@ impl<'a> X64Emitter<'a> {
         self.form_reg_rm(forms::MOV_R64_R64, Width::R64, src, dst);
     }
 
+    #[inline(always)]
     pub fn mov_r64_imm64(&mut self, dst: Gpr, imm: u64)
         requires { HasRoom self.old (length (encode (mov_imm64 dst imm))) }
         ensures { Writes self.old (encode (mov_imm64 dst imm)) self.new }
@@ -320,6 +348,7 @@ impl<'a> X64Emitter<'a> {
         self.emit_u64(imm);
     }
 
+    #[inline(always)]
     pub fn mov_r64_m64_disp32(&mut self, dst: Gpr, base: Gpr, disp: u32)
         requires { HasRoom self.old (length (encode (load dst base disp))) }
         ensures { Writes self.old (encode (load dst base disp)) self.new }
@@ -327,6 +356,7 @@ impl<'a> X64Emitter<'a> {
         self.form_reg_mem(forms::MOV_R64_M64, dst, base, disp);
     }
 
+    #[inline(always)]
     pub fn mov_m64_disp32_r64(&mut self, base: Gpr, disp: u32, src: Gpr)
         requires { HasRoom self.old (length (encode (store base disp src))) }
         ensures { Writes self.old (encode (store base disp src)) self.new }
@@ -335,6 +365,7 @@ impl<'a> X64Emitter<'a> {
     }
 
     // `add_r64_r64`, `add_r32_r32`, and so for SUB; of 64 bits AND, OR, XOR and CMP.
+    #[inline(always)]
     pub fn alu_r_r(&mut self, w: Width, op: Alu, dst: Gpr, src: Gpr)
         requires { HasRoom self.old (length (encode (alu (width_of w) (alu_of op) dst src))) }
         ensures { Writes self.old (encode (alu (width_of w) (alu_of op) dst src)) self.new }
@@ -343,6 +374,7 @@ impl<'a> X64Emitter<'a> {
     }
 
     // `add_r64_imm32`, and so for AND, OR, XOR and CMP.
+    #[inline(always)]
     pub fn alu_r64_imm32(&mut self, op: Alu, dst: Gpr, imm: u32)
         requires { HasRoom self.old (length (encode (alu_imm32 (alu_of op) dst imm))) }
         ensures { Writes self.old (encode (alu_imm32 (alu_of op) dst imm)) self.new }
@@ -351,6 +383,7 @@ impl<'a> X64Emitter<'a> {
     }
 
     // `and_r64_imm8`, `sub_rsp_imm8` and `add_rsp_imm8`.
+    #[inline(always)]
     pub fn alu_r64_imm8(&mut self, op: Alu, dst: Gpr, imm: u8)
         requires { HasRoom self.old (length (encode (alu_imm8 (alu_of op) dst imm))) }
         ensures { Writes self.old (encode (alu_imm8 (alu_of op) dst imm)) self.new }
@@ -359,6 +392,7 @@ impl<'a> X64Emitter<'a> {
     }
 
     // `shl_r64_cl`, `shl_r32_cl`, and so for SHR and SAR; below, by a byte.
+    #[inline(always)]
     pub fn shift_cl(&mut self, w: Width, op: Shift, reg: Gpr)
         requires { HasRoom self.old (length (encode (shift_cl (width_of w) (shift_of op) reg))) }
         ensures { Writes self.old (encode (shift_cl (width_of w) (shift_of op) reg)) self.new }
@@ -366,6 +400,7 @@ impl<'a> X64Emitter<'a> {
         self.form_digit_rm(op.by_cl(), w, reg);
     }
 
+    #[inline(always)]
     pub fn shift_imm8(&mut self, w: Width, op: Shift, reg: Gpr, imm: u8)
         requires { HasRoom self.old (length (encode (shift_imm8 (width_of w) (shift_of op) reg imm))) }
         ensures { Writes self.old (encode (shift_imm8 (width_of w) (shift_of op) reg imm)) self.new }
@@ -374,6 +409,7 @@ impl<'a> X64Emitter<'a> {
     }
 
     // `imul_r64_r64` and `imul_r32_r32`.
+    #[inline(always)]
     pub fn imul_r_r(&mut self, w: Width, dst: Gpr, src: Gpr)
         requires { HasRoom self.old (length (encode (imul (width_of w) dst src))) }
         ensures { Writes self.old (encode (imul (width_of w) dst src)) self.new }
@@ -381,6 +417,7 @@ impl<'a> X64Emitter<'a> {
         self.form_0f_reg_rm(forms::IMUL_R_RM, 0, w, dst, src);
     }
 
+    #[inline(always)]
     pub fn movsxd_r64_r32(&mut self, dst: Gpr, src: Gpr)
         requires { HasRoom self.old (length (encode (movsxd dst src))) }
         ensures { Writes self.old (encode (movsxd dst src)) self.new }
@@ -388,6 +425,7 @@ impl<'a> X64Emitter<'a> {
         self.form_reg_rm(forms::MOVSXD_R64_R32, Width::R64, dst, src);
     }
 
+    #[inline(always)]
     pub fn setcc_al(&mut self, cc: X64Cc)
         requires { HasRoom self.old (length (encode (setcc_al (cc_of cc)))) }
         ensures { Writes self.old (encode (setcc_al (cc_of cc))) self.new }
@@ -395,6 +433,7 @@ impl<'a> X64Emitter<'a> {
         self.form_0f_al(forms::SETCC_AL, cc as u8);
     }
 
+    #[inline(always)]
     pub fn movzx_r64_r8(&mut self, dst: Gpr, src: Gpr)
         requires { HasRoom self.old (length (encode (movzx dst src))) }
         ensures { Writes self.old (encode (movzx dst src)) self.new }
@@ -402,6 +441,7 @@ impl<'a> X64Emitter<'a> {
         self.form_0f_reg_rm(forms::MOVZX_R64_R8, 0, Width::R64, dst, src);
     }
 
+    #[inline(always)]
     pub fn cmovcc_r64_r64(&mut self, dst: Gpr, src: Gpr, cc: X64Cc)
         requires { HasRoom self.old (length (encode (cmov (cc_of cc) dst src))) }
         ensures { Writes self.old (encode (cmov (cc_of cc) dst src)) self.new }
@@ -409,6 +449,7 @@ impl<'a> X64Emitter<'a> {
         self.form_0f_reg_rm(forms::CMOVCC_R64_R64, cc as u8, Width::R64, dst, src);
     }
 
+    #[inline(always)]
     pub fn call_rax(&mut self)
         requires { HasRoom self.old (length (encode call_rax)) }
         ensures { Writes self.old (encode call_rax) self.new }
@@ -417,6 +458,7 @@ impl<'a> X64Emitter<'a> {
         self.emit_digit(forms::CALL_RAX, X64Emitter::RAX.number());
     }
 
+    #[inline(always)]
     pub fn ret(&mut self)
         requires { HasRoom self.old (length (encode «ret»)) }
         ensures { Writes self.old (encode «ret») self.new }
@@ -425,6 +467,7 @@ impl<'a> X64Emitter<'a> {
     }
 
     // RDX:RAX becomes RAX times a register, IMUL of signed numbers; or RAX and RDX become quotient and remainder of RDX:RAX, IDIV of signed.
+    #[inline(always)]
     pub fn mul_div(&mut self, w: Width, op: MulDiv, reg: Gpr)
         requires { HasRoom self.old (length (encode (mul_div (width_of w) (mul_div_of op) reg))) }
         ensures { Writes self.old (encode (mul_div (width_of w) (mul_div_of op) reg)) self.new }
@@ -433,6 +476,7 @@ impl<'a> X64Emitter<'a> {
     }
 
     // CQO, the sign of RAX in RDX; of 32 bits CDQ, of EAX in EDX.
+    #[inline(always)]
     pub fn cqo(&mut self, w: Width)
         requires { HasRoom self.old (length (encode (cqo (width_of w)))) }
         ensures { Writes self.old (encode (cqo (width_of w))) self.new }
@@ -441,6 +485,7 @@ impl<'a> X64Emitter<'a> {
     }
 
     // A jump over the next bytes, as many as rel says, where the condition holds.
+    #[inline(always)]
     pub fn jcc_rel8(&mut self, cc: X64Cc, rel: u8)
         requires { (rel < 128) × HasRoom self.old (length (encode (jcc (cc_of cc) rel))) }
         ensures { Writes self.old (encode (jcc (cc_of cc) rel)) self.new }

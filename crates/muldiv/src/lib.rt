@@ -1,6 +1,6 @@
 // Upper halves of products, quotients and remainders of R10 and R11, into R10 (document 02, Q-2): what the words of F7_MULDIV need that
 // the Rust does not take. Where the host's division would fault the manual has a value: it is put into the result's register first,
-// and one test of the divisor jumps over the division or does not.
+// and one test of the divisor jumps over the division or does not. Inlined as the emitter's functions are.
 #![tactic(auto)]
 
 ghost use Rattle.std.specs.Prelude.{◌++◌, length};
@@ -15,6 +15,7 @@ ghost use Rattle.muldiv.specs.Parts.{upper_half, extended};
 use emitter::{Alu, Gpr, MulDiv, Shift, Width, X64Cc, X64Emitter};
 
 // MULH by IMUL, both signed; MULHU by MUL, both unsigned.
+#[inline(always)]
 pub fn mul_upper(em: &mut X64Emitter<'_>, op: MulDiv)
     requires { HasRoom em.old 9 }
     ensures { Writes em.old (bytes (upper_half (mul_div_of op))) em.new }
@@ -25,6 +26,7 @@ pub fn mul_upper(em: &mut X64Emitter<'_>, op: MulDiv)
 }
 
 // MULHSU: R10 signed, R11 unsigned. The unsigned product's upper half, less R11 where R10 is negative.
+#[inline(always)]
 pub fn mulhsu(em: &mut X64Emitter<'_>)
     requires { HasRoom em.old 17 }
     ensures { Writes em.old (bytes (body_op MULHSU)) em.new }
@@ -37,6 +39,7 @@ pub fn mulhsu(em: &mut X64Emitter<'_>)
 }
 
 // The division itself, eight bytes: quotient in RAX, remainder in RDX.
+#[inline(always)]
 fn div(em: &mut X64Emitter<'_>, w: Width)
     requires { HasRoom em.old 8 }
     ensures { Writes em.old (bytes (division_u (width_of w))) em.new }
@@ -47,6 +50,7 @@ fn div(em: &mut X64Emitter<'_>, w: Width)
 }
 
 // The same of signed numbers, eight bytes; of 32 bits seven.
+#[inline(always)]
 fn idiv(em: &mut X64Emitter<'_>, w: Width)
     requires { HasRoom em.old (length (bytes (division_s (width_of w)))) }
     ensures { Writes em.old (bytes (division_s (width_of w))) em.new }
@@ -57,6 +61,7 @@ fn idiv(em: &mut X64Emitter<'_>, w: Width)
 }
 
 // Unsigned: jumps over the division where R11 is 0. `res` is RAX or RDX.
+#[inline(always)]
 fn divide_u(em: &mut X64Emitter<'_>, w: Width, res: Gpr)
     requires { HasRoom em.old 16 }
     ensures { Writes em.old (bytes (divide_u (width_of w) res)) em.new }
@@ -68,6 +73,7 @@ fn divide_u(em: &mut X64Emitter<'_>, w: Width, res: Gpr)
 }
 
 // Signed: jumps over the division where RCX, which is R11 plus 1, is 0 or 1.
+#[inline(always)]
 fn divide_s(em: &mut X64Emitter<'_>, w: Width, res: Gpr)
     requires { HasRoom em.old (length (bytes (divide_s (width_of w) res))) }
     ensures { Writes em.old (bytes (divide_s (width_of w) res)) em.new }
@@ -83,6 +89,7 @@ fn divide_s(em: &mut X64Emitter<'_>, w: Width, res: Gpr)
 }
 
 // R11 plus 1 in RCX.
+#[inline(always)]
 fn divisor_plus_1(em: &mut X64Emitter<'_>)
     requires { HasRoom em.old 7 }
     ensures { Writes em.old (bytes divisor_plus1) em.new }
@@ -92,6 +99,7 @@ fn divisor_plus_1(em: &mut X64Emitter<'_>)
 }
 
 // The quotient where R11 is 0 or -1, in RAX: R10 * R11 - (R11 + 1).
+#[inline(always)]
 fn first_quotient(em: &mut X64Emitter<'_>)
     requires { HasRoom em.old 17 }
     ensures { Writes em.old (bytes first_quotient) em.new }
@@ -103,6 +111,7 @@ fn first_quotient(em: &mut X64Emitter<'_>)
 }
 
 // The remainder where R11 is 0 or -1, in RDX: R10 * (R11 + 1).
+#[inline(always)]
 fn first_remainder(em: &mut X64Emitter<'_>)
     requires { HasRoom em.old 14 }
     ensures { Writes em.old (bytes first_remainder) em.new }
@@ -113,6 +122,7 @@ fn first_remainder(em: &mut X64Emitter<'_>)
 }
 
 // Before a signed division of 32 bits the operands' low 32 bits, sign-extended.
+#[inline(always)]
 fn sign_extend_pair(em: &mut X64Emitter<'_>, w: Width)
     requires { HasRoom em.old (length (bytes (extended (width_of w)))) }
     ensures { Writes em.old (bytes (extended (width_of w))) em.new }
@@ -127,6 +137,7 @@ fn sign_extend_pair(em: &mut X64Emitter<'_>, w: Width)
 }
 
 // DIV, and DIVW, whose result is still to be sign-extended; so are the other three of 32 bits.
+#[inline(always)]
 pub fn quotient_s(em: &mut X64Emitter<'_>, w: Width)
     requires { HasRoom em.old (length (bytes (extended (width_of w) ++ quotient_s (width_of w)))) }
     ensures { Writes em.old (bytes (extended (width_of w) ++ quotient_s (width_of w))) em.new }
@@ -137,6 +148,7 @@ pub fn quotient_s(em: &mut X64Emitter<'_>, w: Width)
 }
 
 // REM and REMW.
+#[inline(always)]
 pub fn remainder_s(em: &mut X64Emitter<'_>, w: Width)
     requires { HasRoom em.old (length (bytes (extended (width_of w) ++ remainder_s (width_of w)))) }
     ensures { Writes em.old (bytes (extended (width_of w) ++ remainder_s (width_of w))) em.new }
@@ -147,6 +159,7 @@ pub fn remainder_s(em: &mut X64Emitter<'_>, w: Width)
 }
 
 // DIVU and DIVUW: all ones where R11 is 0.
+#[inline(always)]
 pub fn quotient_u(em: &mut X64Emitter<'_>, w: Width)
     requires { HasRoom em.old 20 }
     ensures { Writes em.old (bytes (quotient_u (width_of w))) em.new }
@@ -156,6 +169,7 @@ pub fn quotient_u(em: &mut X64Emitter<'_>, w: Width)
 }
 
 // REMU and REMUW: R10 where R11 is 0.
+#[inline(always)]
 pub fn remainder_u(em: &mut X64Emitter<'_>, w: Width)
     requires { HasRoom em.old 19 }
     ensures { Writes em.old (bytes (remainder_u (width_of w))) em.new }

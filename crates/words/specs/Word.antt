@@ -1,6 +1,6 @@
 -- What the emitter makes of a word, by the definitions of crate agreement (Translation/Kind, Emit and Walk): host instructions, and
 -- how the block goes on behind them.
-use Rattle.std.specs.Prelude.{◌≡◌, ℕ, ◌-◌, ◌*◌, ◌/◌, ◌%◌, ◌^◌, cond, List, [], ◌∷◌, ◌++◌, ◌==◌, Option, Some, None}
+use Rattle.std.specs.Prelude.{◌≡◌, Bool, true, false, ℕ, ◌-◌, ◌*◌, ◌/◌, ◌%◌, ◌^◌, cond, List, [], ◌∷◌, ◌++◌, ◌==◌, Option, Some, None}
 use Rattle.agreement.specs.Common.{Helper.for_halfword, Helper.for_access}
 use Rattle.agreement.specs.Riscv.Instruction.{Op, OpImm, Branch, Instruction}
 use Rattle.agreement.specs.Riscv.Instruction.Instruction.{op, op_imm, branch, access, unmodelled, LUI, AUIPC, JAL, JALR, FENCE, FENCE_I}
@@ -17,8 +17,6 @@ use Rattle.agreement.specs.Translation.Kind.{kind_number, kind_op, kind_op32, ki
 use Rattle.agreement.specs.Riscv.Immediates as Manual
 use Rattle.decode.specs.declared.Decoded32.{Decoded32}
 use Rattle.emitter.specs.declared.X64Emitter.{X64Emitter}
-use Rattle.emitter.specs.declared.args.Width.{Width}
-use Rattle.emitter.specs.declared.args.Width.TheVariants.{R32, R64}
 use Rattle.emitter.specs.declared.args.X64Cc.{X64Cc}
 use Rattle.emitter.specs.Args.{cc_of}
 use Rattle.emitter.specs.Written.{Writes}
@@ -144,13 +142,13 @@ branch_body k next target =
     by_family (λ _. not_emitted []) (λ _. not_emitted []) (λ c. ends (select (cc_for c) next target)) (not_emitted []) (not_emitted []) k
 
 -- the instruction of a word of 64 bits and of one of 32, by the match of its family
-abbrev pub kind_op_of : Width → ℕ → ℕ → Instruction
-kind_op_of R64 f s = kind_op f s
-kind_op_of R32 f s = kind_op32 f s
+abbrev pub kind_op_of : Bool → ℕ → ℕ → Instruction
+kind_op_of true f s = kind_op f s
+kind_op_of false f s = kind_op32 f s
 
-abbrev pub kind_op_imm_of : Width → Decoded32 → Instruction
-kind_op_imm_of R64 d = kind_op_imm d.funct3 (d.imm12 / 64)
-kind_op_imm_of R32 d = kind_op_imm32 d.funct3 d.funct7
+abbrev pub kind_op_imm_of : Bool → Decoded32 → Instruction
+kind_op_imm_of true d = kind_op_imm d.funct3 (d.imm12 / 64)
+kind_op_imm_of false d = kind_op_imm32 d.funct3 d.funct7
 
 abbrev pub op_word : Instruction → Decoded32 → Word
 op_word k d = finished (load_pair d.rs1 d.rs2) (op_body k) d.rd

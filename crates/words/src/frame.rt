@@ -9,6 +9,7 @@ ghost use Rattle.words.specs.Word.{pushes, keeps, pops};
 use emitter::{Alu, X64Emitter};
 
 // The callee-saved registers.
+#[inline(always)]
 fn x64_emit_pushes(em: &mut X64Emitter<'_>)
     requires { HasRoom em.old 10 }
     ensures { Writes em.old (bytes pushes) em.new }
@@ -22,6 +23,7 @@ fn x64_emit_pushes(em: &mut X64Emitter<'_>)
 }
 
 // The block's arguments in callee-saved registers.
+#[inline(always)]
 fn x64_emit_keeps(em: &mut X64Emitter<'_>)
     requires { HasRoom em.old 18 }
     ensures { Writes em.old (bytes keeps) em.new }
@@ -35,6 +37,7 @@ fn x64_emit_keeps(em: &mut X64Emitter<'_>)
 }
 
 // What a block opens with.
+#[inline(always)]
 pub fn x64_emit_prologue(em: &mut X64Emitter<'_>)
     requires { HasRoom em.old 32 }
     ensures { Writes em.old (bytes opening) em.new }
@@ -45,6 +48,7 @@ pub fn x64_emit_prologue(em: &mut X64Emitter<'_>)
 }
 
 // The callee-saved registers back.
+#[inline(always)]
 fn x64_emit_pops(em: &mut X64Emitter<'_>)
     requires { HasRoom em.old 10 }
     ensures { Writes em.old (bytes pops) em.new }
@@ -58,6 +62,7 @@ fn x64_emit_pops(em: &mut X64Emitter<'_>)
 }
 
 // What a block closes with.
+#[inline(always)]
 pub fn x64_emit_epilogue(em: &mut X64Emitter<'_>)
     requires { HasRoom em.old 15 }
     ensures { Writes em.old (bytes (closing ++ «ret» ∷ [])) em.new }

@@ -13,6 +13,7 @@ use decode::{Decoded32, XReg, isa};
 use emitter::{Alu, Width, X64Cc, X64Emitter};
 
 // JAL: the link to rd, the target in RAX.
+#[inline(always)]
 pub fn jal(em: &mut X64Emitter<'_>, rd: XReg, link: u64, target: u64)
     requires { HasRoom em.old 27 }
     ensures { Writes em.old (bytes (code_jal rd link target)) em.new }
@@ -22,6 +23,7 @@ pub fn jal(em: &mut X64Emitter<'_>, rd: XReg, link: u64, target: u64)
 }
 
 // rs1 and the immediate, without bit 0, in R10.
+#[inline(always)]
 fn jalr_target(em: &mut X64Emitter<'_>, rs1: XReg, imm: u32)
     requires { HasRoom em.old 21 }
     ensures { Writes em.old (bytes (jalr_target rs1 imm)) em.new }
@@ -32,6 +34,7 @@ fn jalr_target(em: &mut X64Emitter<'_>, rs1: XReg, imm: u32)
 }
 
 // The link to rd through R11, since R10 holds the target; nothing for x0.
+#[inline(always)]
 fn jalr_link(em: &mut X64Emitter<'_>, rd: XReg, link: u64)
     requires { HasRoom em.old 17 }
     ensures written { Writes em.old (bytes (jalr_link rd link)) em.new }
@@ -44,6 +47,7 @@ fn jalr_link(em: &mut X64Emitter<'_>, rd: XReg, link: u64)
 }
 
 // JALR: the target is computed before the link is stored, since rd may be rs1.
+#[inline(always)]
 pub fn jalr(em: &mut X64Emitter<'_>, rd: XReg, rs1: XReg, imm: u32, link: u64)
     requires { HasRoom em.old 41 }
     ensures { Writes em.old (bytes (code_jalr rd rs1 imm link)) em.new }
@@ -69,6 +73,7 @@ fn branch_condition(funct3: u8) -> Option<X64Cc>
 }
 
 // Both source registers, and their comparison.
+#[inline(always)]
 fn branch_compare(em: &mut X64Emitter<'_>, rs1: XReg, rs2: XReg)
     requires { HasRoom em.old 17 }
     ensures { Writes em.old (bytes (compare rs1 rs2)) em.new }
@@ -78,6 +83,7 @@ fn branch_compare(em: &mut X64Emitter<'_>, rs1: XReg, rs2: XReg)
 }
 
 // The target in RAX where the condition holds, else the next pc.
+#[inline(always)]
 fn branch_select(em: &mut X64Emitter<'_>, next: u64, target: u64, cc: X64Cc)
     requires { HasRoom em.old 27 }
     ensures { Writes em.old (bytes (select (cc_of cc) next target)) em.new }
@@ -89,6 +95,7 @@ fn branch_select(em: &mut X64Emitter<'_>, next: u64, target: u64, cc: X64Cc)
 }
 
 // BRANCH: a reserved funct3 is not taken, behind the comparison.
+#[inline(always)]
 pub fn branch_word(
     em: &mut X64Emitter<'_>,
     d: Decoded32,

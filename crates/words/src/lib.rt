@@ -1,4 +1,5 @@
-// `emit_native_instr_x64` of src/hart/jit_amd64.rs: a word of the run becomes host instructions in a lent output.
+// `emit_native_instr_x64` of src/hart/jit_amd64.rs: a word of the run becomes host instructions in a lent output. Inlined as the emitter's
+// functions are.
 #![tactic(auto)]
 
 mod frame;
@@ -19,7 +20,7 @@ pub use crate::frame::{x64_emit_epilogue, x64_emit_prologue};
 pub use crate::helper::emit_native_term_helper_x64;
 use crate::slots::x64_emit_const;
 use decode::{Decoded32, isa};
-use emitter::{Width, X64Emitter};
+use emitter::X64Emitter;
 
 // `Terminate`: the word is the block's last, and has set RAX. `StopBehind`, which the Rust does not have: the word is the block's last;
 // the block goes on at the word behind, and its end sets RAX.
@@ -39,6 +40,7 @@ fn imm32(instr: u32) -> u32
 
 // MISC-MEM: the fences have no code of their own. Behind FENCE.I the guest's code may be another than before it, so the block ends
 // (document 02, Q-1); in the Rust it goes on.
+#[inline(always)]
 fn fence_word(em: &mut X64Emitter<'_>, funct3: u8) -> Option<X64EmitFlow>
     ensures { Emits em.old (fence_word (kind_fence funct3)) em.new result }
 {
@@ -50,6 +52,7 @@ fn fence_word(em: &mut X64Emitter<'_>, funct3: u8) -> Option<X64EmitFlow>
 }
 
 // The match on the opcode. The immediates, the link and the target are worked out once, here.
+#[inline(always)]
 fn emit_by_opcode(em: &mut X64Emitter<'_>, pc: u64, instr: u32, d: Decoded32) -> Option<X64EmitFlow>
     requires { HasRoom em.old 63 }
     ensures { Emits em.old (word_by pc instr d) em.new result }
@@ -80,10 +83,10 @@ fn emit_by_opcode(em: &mut X64Emitter<'_>, pc: u64, instr: u32, d: Decoded32) ->
             let target = pc.wrapping_add(decode::imm_b(instr));
             jump::branch_word(em, d, next, target)
         }
-        isa::OPCODE_OP_IMM => op_imm::op_imm_word(em, Width::R64, d, imm32(instr)),
-        isa::OPCODE_OP_IMM_32 => op_imm::op_imm_word(em, Width::R32, d, imm32(instr)),
-        isa::OPCODE_OP => op::op_word(em, Width::R64, d),
-        isa::OPCODE_OP_32 => op::op_word(em, Width::R32, d),
+        isa::OPCODE_OP_IMM => op_imm::op_imm_word::<true>(em, d, imm32(instr)),
+        isa::OPCODE_OP_IMM_32 => op_imm::op_imm_word::<false>(em, d, imm32(instr)),
+        isa::OPCODE_OP => op::op_word::<true>(em, d),
+        isa::OPCODE_OP_32 => op::op_word::<false>(em, d),
         isa::OPCODE_MISC_MEM => fence_word(em, d.funct3),
         _ => None,
     }
@@ -91,6 +94,7 @@ fn emit_by_opcode(em: &mut X64Emitter<'_>, pc: u64, instr: u32, d: Decoded32) ->
 
 // A word of the run at pc: its host instructions, and how the block goes on behind it. None, as in the Rust: the word is not taken, or a load
 // or store; there is no code for it but the loads in front of its test.
+#[inline(always)]
 pub fn emit_native_instr_x64(em: &mut X64Emitter<'_>, pc: u64, instr: u32) -> Option<X64EmitFlow>
     requires { HasRoom em.old 63 }
     ensures { Emits em.old (word_as (kind instr) pc instr) em.new result }

@@ -6,7 +6,7 @@ ghost use Rattle.agreement.specs.X86.Encode.{bytes};
 ghost use Rattle.agreement.specs.X86.Form.{alu_imm8, and, RCX, R11, mov};
 ghost use Rattle.agreement.specs.Translation.Kind.{kind_op, kind_op32};
 ghost use Rattle.emitter.specs.Written.{Writes, HasRoom};
-ghost use Rattle.words.specs.Word.{Emits, op_body, kind_op_of, op_word};
+ghost use Rattle.words.specs.Word.{Emits, kind_op_of, op_body, op_word};
 
 use crate::X64EmitFlow;
 use crate::result::{set_flag, sign_extended};
@@ -15,6 +15,7 @@ use decode::{Decoded32, isa};
 use emitter::{Alu, MulDiv, Shift, Width, X64Cc, X64Emitter};
 
 // OP with F7_BASE.
+#[inline(always)]
 fn op_base(em: &mut X64Emitter<'_>, funct3: u8) -> Option<X64EmitFlow>
     requires { HasRoom em.old 13 }
     ensures { Emits em.old (op_body (kind_op funct3 0x00)) em.new result }
@@ -46,6 +47,7 @@ fn op_base(em: &mut X64Emitter<'_>, funct3: u8) -> Option<X64EmitFlow>
 }
 
 // OP with F7_SUB_SRA.
+#[inline(always)]
 fn op_sub_sra(em: &mut X64Emitter<'_>, funct3: u8) -> Option<X64EmitFlow>
     requires { HasRoom em.old 13 }
     ensures { Emits em.old (op_body (kind_op funct3 0x20)) em.new result }
@@ -62,6 +64,7 @@ fn op_sub_sra(em: &mut X64Emitter<'_>, funct3: u8) -> Option<X64EmitFlow>
 }
 
 // OP with F7_MULDIV.
+#[inline(always)]
 fn op_muldiv(em: &mut X64Emitter<'_>, funct3: u8) -> Option<X64EmitFlow>
     requires { HasRoom em.old 34 }
     ensures { Emits em.old (op_body (kind_op funct3 0x01)) em.new result }
@@ -81,6 +84,7 @@ fn op_muldiv(em: &mut X64Emitter<'_>, funct3: u8) -> Option<X64EmitFlow>
 }
 
 // The low five bits of R11 in CL.
+#[inline(always)]
 fn count32(em: &mut X64Emitter<'_>)
     requires { HasRoom em.old 7 }
     ensures { Writes em.old (bytes (mov RCX R11 ∷ alu_imm8 and RCX 0x1F ∷ [])) em.new }
@@ -90,6 +94,7 @@ fn count32(em: &mut X64Emitter<'_>)
 }
 
 // OP-32 with F7_BASE.
+#[inline(always)]
 fn op_32_base(em: &mut X64Emitter<'_>, funct3: u8) -> Option<X64EmitFlow>
     requires { HasRoom em.old 13 }
     ensures { Emits em.old (op_body (kind_op32 funct3 0x00)) em.new result }
@@ -114,6 +119,7 @@ fn op_32_base(em: &mut X64Emitter<'_>, funct3: u8) -> Option<X64EmitFlow>
 }
 
 // OP-32 with F7_SUB_SRA.
+#[inline(always)]
 fn op_32_sub_sra(em: &mut X64Emitter<'_>, funct3: u8) -> Option<X64EmitFlow>
     requires { HasRoom em.old 13 }
     ensures { Emits em.old (op_body (kind_op32 funct3 0x20)) em.new result }
@@ -133,6 +139,7 @@ fn op_32_sub_sra(em: &mut X64Emitter<'_>, funct3: u8) -> Option<X64EmitFlow>
 }
 
 // OP-32 with F7_MULDIV.
+#[inline(always)]
 fn op_32_muldiv(em: &mut X64Emitter<'_>, funct3: u8) -> Option<X64EmitFlow>
     requires { HasRoom em.old 42 }
     ensures { Emits em.old (op_body (kind_op32 funct3 0x01)) em.new result }
@@ -163,34 +170,46 @@ fn op_32_muldiv(em: &mut X64Emitter<'_>, funct3: u8) -> Option<X64EmitFlow>
 }
 
 // OP on R10 and R11, the result in R10; of 32 bits OP-32.
-fn op_on_r10(em: &mut X64Emitter<'_>, w: Width, funct3: u8, funct7: u8) -> Option<X64EmitFlow>
+#[inline(always)]
+fn op_on_r10<const W: bool>(em: &mut X64Emitter<'_>, funct3: u8, funct7: u8) -> Option<X64EmitFlow>
     requires { HasRoom em.old 42 }
-    ensures { Emits em.old (op_body (kind_op_of w funct3 funct7)) em.new result }
+    ensures { Emits em.old (op_body (kind_op_of W funct3 funct7)) em.new result }
 {
     match funct7 {
-        isa::F7_BASE => match w {
-            Width::R64 => op_base(em, funct3),
-            Width::R32 => op_32_base(em, funct3),
-        },
-        isa::F7_SUB_SRA => match w {
-            Width::R64 => op_sub_sra(em, funct3),
-            Width::R32 => op_32_sub_sra(em, funct3),
-        },
-        isa::F7_MULDIV => match w {
-            Width::R64 => op_muldiv(em, funct3),
-            Width::R32 => op_32_muldiv(em, funct3),
-        },
+        isa::F7_BASE => {
+            if W {
+                op_base(em, funct3)
+            } else {
+                op_32_base(em, funct3)
+            }
+        }
+        isa::F7_SUB_SRA => {
+            if W {
+                op_sub_sra(em, funct3)
+            } else {
+                op_32_sub_sra(em, funct3)
+            }
+        }
+        isa::F7_MULDIV => {
+            if W {
+                op_muldiv(em, funct3)
+            } else {
+                op_32_muldiv(em, funct3)
+            }
+        }
         _ => None,
     }
 }
 
-// OP; of 32 bits OP-32.
-pub fn op_word(em: &mut X64Emitter<'_>, w: Width, d: Decoded32) -> Option<X64EmitFlow>
+// OP; of 32 bits OP-32. W says whether a word has 64 bits: a const parameter, so that each is compiled by itself. As an argument it kept the
+// compiler from inlining, and took five times as long.
+#[inline(always)]
+pub fn op_word<const W: bool>(em: &mut X64Emitter<'_>, d: Decoded32) -> Option<X64EmitFlow>
     requires { HasRoom em.old 63 }
-    ensures { Emits em.old (op_word (kind_op_of w d.funct3 d.funct7) d) em.new result }
+    ensures { Emits em.old (op_word (kind_op_of W d.funct3 d.funct7) d) em.new result }
 {
     x64_emit_load_pair(em, d.rs1, d.rs2);
-    let flow = op_on_r10(em, w, d.funct3, d.funct7)?;
+    let flow = op_on_r10::<W>(em, d.funct3, d.funct7)?;
     x64_emit_store_reg(em, d.rd, X64Emitter::R10);
     Some(flow)
 }

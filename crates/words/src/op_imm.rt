@@ -2,7 +2,7 @@
 ghost use Rattle.std.specs.Prelude.{◌/◌};
 ghost use Rattle.agreement.specs.Translation.Kind.{kind_op_imm, kind_op_imm32};
 ghost use Rattle.emitter.specs.Written.{HasRoom};
-ghost use Rattle.words.specs.Word.{Emits, op_imm_body, kind_op_imm_of, op_imm_word};
+ghost use Rattle.words.specs.Word.{Emits, kind_op_imm_of, op_imm_body, op_imm_word};
 
 use crate::X64EmitFlow;
 use crate::result::{set_flag, sign_extended};
@@ -11,7 +11,8 @@ use decode::{Decoded32, isa};
 use emitter::{Alu, Shift, Width, X64Cc, X64Emitter};
 
 // OP-IMM on R10, the result in R10.
-fn op_imm_64_on_r10(em: &mut X64Emitter<'_>, d: &Decoded32, imm: u32) -> Option<X64EmitFlow>
+#[inline(always)]
+fn op_imm_on_r10(em: &mut X64Emitter<'_>, d: &Decoded32, imm: u32) -> Option<X64EmitFlow>
     requires { HasRoom em.old 14 }
     ensures { Emits em.old (op_imm_body (kind_op_imm d.now.funct3 (d.now.imm12 / 64)) d.now imm) em.new result }
 {
@@ -45,6 +46,7 @@ fn op_imm_64_on_r10(em: &mut X64Emitter<'_>, d: &Decoded32, imm: u32) -> Option<
 }
 
 // OP-IMM-32 on R10, the result in R10.
+#[inline(always)]
 fn op_imm_32_on_r10(em: &mut X64Emitter<'_>, d: &Decoded32, imm: u32) -> Option<X64EmitFlow>
     requires { HasRoom em.old 14 }
     ensures { Emits em.old (op_imm_body (kind_op_imm32 d.now.funct3 d.now.funct7) d.now imm) em.new result }
@@ -78,23 +80,30 @@ fn op_imm_32_on_r10(em: &mut X64Emitter<'_>, d: &Decoded32, imm: u32) -> Option<
 }
 
 // OP-IMM on R10, the result in R10; of 32 bits OP-IMM-32.
-fn op_imm_on_r10(em: &mut X64Emitter<'_>, w: Width, d: &Decoded32, imm: u32) -> Option<X64EmitFlow>
+#[inline(always)]
+fn on_r10<const W: bool>(em: &mut X64Emitter<'_>, d: &Decoded32, imm: u32) -> Option<X64EmitFlow>
     requires { HasRoom em.old 14 }
-    ensures { Emits em.old (op_imm_body (kind_op_imm_of w d.now) d.now imm) em.new result }
+    ensures { Emits em.old (op_imm_body (kind_op_imm_of W d.now) d.now imm) em.new result }
 {
-    match w {
-        Width::R64 => op_imm_64_on_r10(em, d, imm),
-        Width::R32 => op_imm_32_on_r10(em, d, imm),
+    if W {
+        op_imm_on_r10(em, d, imm)
+    } else {
+        op_imm_32_on_r10(em, d, imm)
     }
 }
 
-// OP-IMM; of 32 bits OP-IMM-32.
-pub fn op_imm_word(em: &mut X64Emitter<'_>, w: Width, d: Decoded32, imm: u32) -> Option<X64EmitFlow>
+// OP-IMM; of 32 bits OP-IMM-32. W says whether a word has 64 bits.
+#[inline(always)]
+pub fn op_imm_word<const W: bool>(
+    em: &mut X64Emitter<'_>,
+    d: Decoded32,
+    imm: u32,
+) -> Option<X64EmitFlow>
     requires { HasRoom em.old 34 }
-    ensures { Emits em.old (op_imm_word (kind_op_imm_of w d) d imm) em.new result }
+    ensures { Emits em.old (op_imm_word (kind_op_imm_of W d) d imm) em.new result }
 {
     x64_emit_load_reg(em, X64Emitter::R10, d.rs1);
-    let flow = op_imm_on_r10(em, w, &d, imm)?;
+    let flow = on_r10::<W>(em, &d, imm)?;
     x64_emit_store_reg(em, d.rd, X64Emitter::R10);
     Some(flow)
 }

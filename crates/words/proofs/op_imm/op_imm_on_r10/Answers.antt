@@ -1,6 +1,6 @@
 use Rattle.std.proofs.Common.{◌/◌, rules, ne_eqb}
 use Rattle.agreement.specs.Translation.Kind.{kind_op_imm, match}
-use Rattle.words.proofs.op_imm.op_imm_64_on_r10.Goals as goal
+use Rattle.words.proofs.op_imm.op_imm_on_r10.Goals as goal
 
 pub returns-in-0 : goal.returns-in-0
 unfolding kind_op_imm match
