@@ -54,6 +54,13 @@ impl Gpr {
 
     pub const R15: Gpr = Gpr { number: 15 };
 
+    pub fn new(number: u8) -> Gpr
+        requires { number < 16 }
+        ensures { result ≡ number }
+    {
+        Gpr { number }
+    }
+
     pub fn number(self) -> u8
         ensures value { result ≡ self }
         ensures below_16 { result < 16 }

@@ -35,6 +35,7 @@ pub struct X64Emitter<'a> {
 }
 
 impl<'a> X64Emitter<'a> {
+    // The registers' names, as document 01 has them: constants of this type.
     pub const RAX: Gpr = Gpr::RAX;
 
     pub const RCX: Gpr = Gpr::RCX;
@@ -97,7 +98,8 @@ impl<'a> X64Emitter<'a> {
     }
 
     // Least significant byte first (Intel SDM volume 1, "Bit and Byte Order"), one division a byte: after k bytes the quotient is
-    // v / 256 ^ k. This is proved, as the loop's invariant: `RunningQuotient` in specs/Quotient.
+    // v / 256 ^ k. This is proved, as the loop's invariant: `RunningQuotient` in specs/Quotient. Document 02, Q-3, wants it so, and not
+    // `to_le_bytes`.
     #[inline(always)]
     fn emit_u64(&mut self, v: u64)
         requires { HasRoom self.old (length (bytes_of 8 v)) }

@@ -28,7 +28,7 @@ pub enum Indexing {
     Insert {
         block: KeyedBlock,
     },
-    // Two numbers: requests has no dependency, and the key is crate entry's.
+    // Two numbers, here and in `KeyedBlock`: crate entry's key would be a dependency for one pair.
     Find {
         satp: u64,
         pc: u64,

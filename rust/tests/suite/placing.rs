@@ -92,7 +92,7 @@ fn around_the_end() {
     assert_eq!(cases, 14 * 17 * 9 - 8);
 }
 
-/// Around the greatest block's length, and around the length up to which code is read whole before it is written, 8,192.
+/// Around the greatest block's length, and around 8,192, up to which code was read whole before it was written.
 #[test]
 fn long_code() {
     let mut comparison = Comparison::new(16);
