@@ -32,7 +32,8 @@ NOBODY = 65534
 PARTS = ["cases", "every_", "placing", "index", "buckets", "sorts", "entered", "random_requests", "kinds"]
 
 # Changes that no caller can see, read one by one: function, place of the byte, bit; the instruction as objdump has it without addresses,
-# and why. Where the compiler writes other code, an entry fits no more, and what is then not noticed has to be read anew.
+# and why. Where the compiler writes other code, an entry fits no more, and what is then not noticed has to be read anew: so since the
+# design pass (docs/DESIGN-PASS.md), before which these were read.
 OVERLAP = "only code and store that overlap come here, and these can't be lent"
 LOOPS = "which of two loops copies long code: where code and store do not overlap, they do the same"
 DIGIT = "REX.R, where a digit and no register stands"
