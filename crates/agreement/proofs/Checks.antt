@@ -19,3 +19,5 @@ pub mod Runs
 pub mod CodeChanges
 pub mod Dividing
 pub mod StaleBlock
+pub mod Spans
+pub mod KeptBlocks

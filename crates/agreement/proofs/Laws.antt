@@ -13,4 +13,5 @@ pub mod Needed
 pub mod Runs
 pub mod Leftover
 pub mod Length
+pub mod Spans
 pub mod Output

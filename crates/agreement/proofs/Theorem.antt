@@ -7,3 +7,4 @@ pub mod Consequences
 pub mod TurnByTurn
 pub mod AlongTheRun
 pub mod Agreement
+pub mod Kept

@@ -200,3 +200,15 @@ pub record Reaches (n : ℕ) : Type 0 where
 
 unfoldable pub BothReached : Type 0
 BothReached = Reaches 67 × Reaches 4099
+
+-- A block spans from 2 to 256 bytes of the guest's code, an even number of them, and none that its run did not have.
+
+pub record SpansOf (hs : List ℕ) (b : Block) : Type 0 where
+  pub low : 2 ≤ b.span
+  pub high : b.span ≤ 256
+  pub even : b.span % 2 ≡ 0
+  pub there : b.span ≤ 2 * length hs
+
+unfoldable pub Spans : Type 0
+Spans = (start limit : ℕ) (hs : List ℕ) (helper16 helper_mem room : ℕ) (b : Block) → Halfwords hs
+    → translate start limit hs helper16 helper_mem room ≡ block b → SpansOf hs b

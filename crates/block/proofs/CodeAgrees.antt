@@ -7,13 +7,15 @@ use Rattle.agreement.specs.Statement.Machine.{RegisterBytes, Turn, Event, Turned
 use Rattle.agreement.proofs.Theorem.Agreement.{agreement}
 use Rattle.agreement.specs.Statement.Agreement.{Agreement, Agrees}
 use Rattle.block.specs.Answers.{Answer, Answers}
-use Rattle.block.specs.AgreementInCode.{Ran, Run, AgreementInCode}
+use Rattle.agreement.proofs.Theorem.Kept.{agreement_of_kept}
+use Rattle.agreement.specs.Statement.Kept.{AgreesNow, AgreementOfKept}
+use Rattle.block.specs.AgreementInCode.{Ran, Run, AgreementInCode, AgreementOfKeptInCode}
 use Rattle.block.specs.declared.Refusal.TheVariants.{LimitZero, OddStart, Missing, NotTaken, OutputShort}
 use Rattle.block.proofs.CallerReadsReply.{reads}
 
 -- an answer for each reply
 abbrev answer_to : Reply → Answer
-answer_to (block b) = Ok (record { length = length b.code; count = b.count })
+answer_to (block b) = Ok (record { length = length b.code; count = b.count; span = b.span })
 answer_to (refusal limit_zero) = Err LimitZero
 answer_to (refusal (odd_start start)) = Err (OddStart start)
 answer_to (refusal (missing index)) = Err (Missing index)
@@ -59,4 +61,14 @@ agreement_in_code pc rb ts a b c =
       agrees = g;
       run = run g.history;
       only = λ es p rb' r. g.only es p rb' (history r);
+    }
+
+pub agreement_of_kept_in_code : AgreementOfKeptInCode
+unfolding AgreementOfKept
+agreement_of_kept_in_code pc rb ks a b c d =
+    let g : AgreesNow pc rb ks = agreement_of_kept pc rb ks a b c d in
+    record {
+      now = g;
+      run = run g.agrees.history;
+      only = λ es p rb' r. g.agrees.only es p rb' (history r);
     }

@@ -95,7 +95,7 @@ at_front : {l l' : List ℕ} {b : Block} {r : Rust.Block} → length b.code ≤ 
     → Answers (block b) l l' (Ok r)
 unfolding numbered output_after
 at_front {b = b} f h = record {
-  answers = rw (h.wrote.place ∙ zero-add (length b.code), h.counts) refl;
+  answers = rw (h.wrote.place ∙ zero-add (length b.code), h.counts, h.spans) refl;
   leaves = parts (record { fits = omega (arith, f) }) h.wrote ∙ rw zero-add refl;
 }
 

@@ -8,6 +8,7 @@ use Rattle.agreement.specs.Translation.Replies.{Block, Refusal, Reply.block, Rep
 use Rattle.agreement.specs.Statement.Machine.{RegisterBytes, Turn, Visit, Went, enter, Event, Event.rejected, Event.visited, bytes_after}
 use Rattle.agreement.specs.Statement.Premises.{Premises}
 use Rattle.agreement.specs.Statement.Agreement.{Agrees}
+use Rattle.agreement.specs.Statement.Kept.{Kept, turns, CurrentAlong, AgreesNow}
 use Rattle.block.specs.Answers.{Answer, Translates}
 use Rattle.block.specs.CallerReads.{read}
 
@@ -41,3 +42,15 @@ abbrev pub AgreementInCode : Type 0
 AgreementInCode =
     (pc : ℕ) (rb : RegisterBytes) (ts : List Turn)
     → pc < 2 ^ 64 → Memory.read 8 rb 0 ≡ 0 → Premises pc rb ts → AgreesInCode pc rb ts
+
+-- The same of blocks that are kept (document 02, Q-5): what crate agreement states of them (Statement/Kept) holds of the code's run
+pub record AgreesNowInCode (pc : ℕ) (rb : RegisterBytes) (ks : List Kept) : Type 0 where
+  pub now : AgreesNow pc rb ks
+  pub run : Run pc rb (turns ks) now.agrees.events now.agrees.pc' now.agrees.rb'
+  pub only : (es : List Event) (p : ℕ) (b : RegisterBytes)
+      → Run pc rb (turns ks) es p b → (now.agrees.events ≡ es) × (now.agrees.pc' ≡ p) × (now.agrees.rb' ≡ b)
+
+abbrev pub AgreementOfKeptInCode : Type 0
+AgreementOfKeptInCode =
+    (pc : ℕ) (rb : RegisterBytes) (ks : List Kept)
+    → pc < 2 ^ 64 → Memory.read 8 rb 0 ≡ 0 → Premises pc rb (turns ks) → CurrentAlong pc rb ks → AgreesNowInCode pc rb ks

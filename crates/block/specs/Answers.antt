@@ -13,7 +13,7 @@ abbrev pub Answer : Type 0
 Answer = Result Block Refusal
 
 abbrev pub answered : Answer → ℕ × List ℕ
-answered (Ok b) = (0, b.length ∷ b.count ∷ [])
+answered (Ok b) = (0, b.length ∷ b.count ∷ b.span ∷ [])
 answered (Err LimitZero) = (1, [])
 answered (Err (OddStart start)) = (2, start ∷ [])
 answered (Err (Missing index)) = (3, index ∷ [])
@@ -37,4 +37,5 @@ Fits (Err r) after = Unit
 -- the block b was written at the front of the output
 pub record Compiles (b : Replies.Block) (before after : List ℕ) (r : Block) : Type 0 where
   pub counts : r.count ≡ b.count
+  pub spans : r.span ≡ b.span
   pub wrote : Wrote before 0 b.code after r.length

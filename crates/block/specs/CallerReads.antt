@@ -8,7 +8,7 @@ use Rattle.block.specs.declared.Refusal.TheVariants.{LimitZero, OddStart, Missin
 
 -- a block is the bytes at the front of the output, as many as the answer says
 abbrev pub read : Answer → List ℕ → Reply
-read (Ok b) after = block (record { code = take b.length after; count = b.count })
+read (Ok b) after = block (record { code = take b.length after; count = b.count; span = b.span })
 read (Err LimitZero) after = refusal limit_zero
 read (Err (OddStart start)) after = refusal (odd_start start)
 read (Err (Missing index)) after = refusal (missing index)

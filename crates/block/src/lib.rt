@@ -14,11 +14,13 @@ use emitter::X64Emitter;
 pub use walk::close::Helpers;
 use walk::fetch::Missing;
 
-// A block at the front of the output. `specs/Answers` gives each answer its number and values (document 01, "Replies").
+// A block at the front of the output: its length, its guest instructions, and how many bytes of the guest's code it spans from its start.
+// `specs/Answers` gives each answer its number and values (document 01, "Replies").
 #[derive(Clone, Copy)]
 pub struct Block {
     pub length: usize,
     pub count: u32,
+    pub span: u64,
 }
 
 #[derive(Clone, Copy)]
@@ -66,6 +68,7 @@ fn compile_native_block(
     Block {
         length: em.at,
         count,
+        span: walked.end.span(walked.emitted),
     }
 }
 

@@ -14,7 +14,7 @@ told None = blank
 pub record RepliesToFind (es : List Entry) (satp pc : ℕ) (r : Entry) : Type 0 where
   pub tells : r ≡ told (find es (record { satp = satp; pc = pc }))
 
--- insert's number and value as a record of three numbers, and every entry afterwards
+-- insert's number and value as a record of four numbers, and every entry afterwards
 pub record RepliesToInsert (es es' : List Entry) (satp pc : ℕ) (b : NativeBlock) (r : Reply) : Type 0 where
   pub replies : r ≡ padded (insert_answer es (record { satp = satp; pc = pc }))
   pub leaves : es' ≡ insert es (record { satp = satp; pc = pc }) b

@@ -1,4 +1,4 @@
--- What the exported functions reply: document 01's number and values as a record of three numbers.
+-- What the exported functions reply: document 01's number and values as a record of four numbers.
 use Rattle.std.specs.Prelude.{◌≡◌, List, [], ◌∷◌, ℕ, zero, suc, length}
 use Rattle.agreement.specs.Translation.Replies.{translate, numbered, output_after}
 use Rattle.agreement.specs.Translation.Place.{place, placing_numbered, store_after}
@@ -11,7 +11,7 @@ value zero (v ∷ vs) = v
 value (suc n) (v ∷ vs) = value n vs
 
 abbrev pub padded : ℕ × List ℕ → Reply
-padded p = record { number = p.0; first = value 0 p.1; second = value 1 p.1 }
+padded p = record { number = p.0; first = value 0 p.1; second = value 1 p.1; third = value 2 p.1 }
 
 -- the reply, and every byte of the output afterwards, are the definition's
 pub record Replies (start limit : ℕ) (halfwords : List ℕ) (helper16 helper_mem : ℕ) (before after : List ℕ) (r : Reply) : Type 0 where

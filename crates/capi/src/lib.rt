@@ -22,15 +22,17 @@ pub struct Reply {
     pub number: u64,
     pub first: u64,
     pub second: u64,
+    pub third: u64,
 }
 
-fn numbers(number: u64, first: u64, second: u64) -> Reply
-    ensures { result ≡ record { number = number; first = first; second = second } }
+fn numbers(number: u64, first: u64, second: u64, third: u64) -> Reply
+    ensures { result ≡ record { number = number; first = first; second = second; third = third } }
 {
     Reply {
         number,
         first,
         second,
+        third,
     }
 }
 
@@ -39,17 +41,17 @@ impl From<Result<Block, Refusal>> for Reply {
 
     fn from(answer: Result<Block, Refusal>) -> Reply {
         match answer {
-            Ok(block) => numbers(0, block.length as u64, block.count as u64),
-            Err(Refusal::LimitZero) => numbers(1, 0, 0),
-            Err(Refusal::OddStart(start)) => numbers(2, start, 0),
-            Err(Refusal::Missing(index)) => numbers(3, index as u64, 0),
-            Err(Refusal::NotTaken(word)) => numbers(4, word as u64, 0),
-            Err(Refusal::OutputShort) => numbers(5, 0, 0),
+            Ok(block) => numbers(0, block.length as u64, block.count as u64, block.span),
+            Err(Refusal::LimitZero) => numbers(1, 0, 0, 0),
+            Err(Refusal::OddStart(start)) => numbers(2, start, 0, 0),
+            Err(Refusal::Missing(index)) => numbers(3, index as u64, 0, 0),
+            Err(Refusal::NotTaken(word)) => numbers(4, word as u64, 0, 0),
+            Err(Refusal::OutputShort) => numbers(5, 0, 0, 0),
         }
     }
 }
 
-// block: length, count; 1; 2, start; 3, index; 4, word; 5
+// block: length, count, span; 1; 2, start; 3, index; 4, word; 5
 #[unsafe(no_mangle)]
 pub extern "C" fn emuko_translate(
     start: u64,
@@ -74,8 +76,8 @@ impl From<Result<Placed, Refused>> for Reply {
 
     fn from(answer: Result<Placed, Refused>) -> Reply {
         match answer {
-            Ok(placed) => numbers(0, placed.offset as u64, placed.mark as u64),
-            Err(refused) => numbers(refused as u64, 0, 0),
+            Ok(placed) => numbers(0, placed.offset as u64, placed.mark as u64, 0),
+            Err(refused) => numbers(refused as u64, 0, 0, 0),
         }
     }
 }
@@ -110,8 +112,8 @@ impl From<Result<usize, Full>> for Reply {
 
     fn from(answer: Result<usize, Full>) -> Reply {
         match answer {
-            Ok(index) => numbers(0, index as u64, 0),
-            Err(Full) => numbers(8, 0, 0),
+            Ok(index) => numbers(0, index as u64, 0, 0),
+            Err(Full) => numbers(8, 0, 0, 0),
         }
     }
 }
@@ -135,4 +137,12 @@ pub extern "C" fn emuko_index_empty(entries: &mut [Entry], cache: &mut NativeCod
     ensures { Indexed.Empties entries.old entries.new cache.new.used }
 {
     index::empty(entries, cache);
+}
+
+// The guest has written n bytes from an address on: the marks of the entries that they touch are cleared. How many these were.
+#[unsafe(no_mangle)]
+pub extern "C" fn emuko_index_drop(entries: &mut [Entry], address: u64, n: u64) -> usize
+    ensures { Indexed.Drops entries.old entries.new address n result }
+{
+    index::drop_touched(entries, address, n)
 }

@@ -1,5 +1,5 @@
 -- The history of an index: what find shows after each operation, that keys stay apart, and the theorem by induction over the list.
-use Rattle.std.specs.Prelude.{Some, None, slice_get}
+use Rattle.std.specs.Prelude.{Option, Some, None, slice_get}
 use Rattle.std.specs.List.{list_any, position_or_len}
 use Rattle.std.specs.List as Lists
 use Rattle.std.proofs.Common.{◌≡◌, refl, sym, ap, ◌∙◌, subst, Bool, true, false, not, cond, ◌&&◌, ◌||◌, true≢false, List, [], ◌∷◌, ℕ, zero, suc}
@@ -7,8 +7,9 @@ use Rattle.std.proofs.Common.{eqb, eqb-true, eq-eqb, ne_eqb}
 use Rattle.std.proofs.Math.Bool.{and-false}
 use borrow.Author.Tests.{eqb-false}
 use Rattle.entry.specs.Index.{free, is_in_use, key_of, keyed, holds, over_first, find, taken, mark_of, renewed, insert, insert_answer, empty}
-use Rattle.entry.specs.History.{Event, Event.inserted, Event.refused, Event.emptied, last, Operation, Operation.inserts}
-use Rattle.entry.specs.History.{Operation.empties, after, outcome, events, showing, Distinct, ShowsLast, History}
+use Rattle.entry.specs.Index.{freed, touches, is_dropped, drop_touched}
+use Rattle.entry.specs.History.{Event, Event.inserted, Event.refused, Event.emptied, Event.dropped, last, unless_touched, Operation, Operation.inserts}
+use Rattle.entry.specs.History.{Operation.empties, Operation.drops, after, outcome, events, showing, Distinct, ShowsLast, History}
 use Rattle.entry.specs.declared.Key.{Key}
 use Rattle.entry.specs.declared.Entry.{Entry}
 use Rattle.entry.specs.declared.NativeBlock.{NativeBlock}
@@ -31,7 +32,7 @@ equal_keys j k h =
     ap (λ (n : ℕ). let k' : Key = record { satp = n; pc = j.pc } in k') s
     ∙ ap (λ (n : ℕ). let k' : Key = record { satp = k.satp; pc = n } in k') c
 
-held : (k : Key) (e : Entry) → holds k e ≡ true → (is_in_use e ≡ true) × (key_of e ≡ k)
+pub held : (k : Key) (e : Entry) → holds k e ≡ true → (is_in_use e ≡ true) × (key_of e ≡ k)
 held k e h =
     let b = both_hold (is_in_use e) (keyed k e) h in
     (b.0, equal_keys (key_of e) k b.1)
@@ -79,6 +80,14 @@ marks_over p k b (e ∷ es) h = at (p e) (marks_over p k b es h.1)
     at : (t : Bool) → Marks (over_first p (renewed k b) es)
         → Marks (cond t (renewed k b e ∷ es) (e ∷ over_first p (renewed k b) es))
     at true i = (ap (λ (m : ℕ). cond (eqb m 0) 1 m) h.0, h.1)
+    at false i = (h.0, i)
+
+marks_drop : (es : List Entry) (a n : ℕ) → Marks es → Marks (drop_touched es a n)
+marks_drop [] a n h = tt
+marks_drop (e ∷ es) a n h = at (is_dropped a n e) (marks_drop es a n h.1)
+  where
+    at : (t : Bool) → Marks (drop_touched es a n) → Marks (cond t (freed e) e ∷ drop_touched es a n)
+    at true i = (refl, i)
     at false i = (h.0, i)
 
 marks_empty : (es : List Entry) → Marks (empty es)
@@ -208,6 +217,42 @@ apart_empty : (es : List Entry) → Apart (empty es)
 apart_empty [] = tt
 apart_empty (e ∷ es) = ((λ u. absurd (true≢false (sym u))), apart_empty es)
 
+-- what a drop leaves of what was found; here it counts that keys stand apart: behind the first of two, which goes, the second would be found
+abbrev unless_dropped : ℕ → ℕ → Option Entry → Option Entry
+unless_dropped a n None = None
+unless_dropped a n (Some e) = cond (is_dropped a n e) None (Some e)
+
+find_dropped : (es : List Entry) (a n : ℕ) (k : Key) → Apart es → find (drop_touched es a n) k ≡ unless_dropped a n (find es k)
+find_dropped [] a n k h = refl
+find_dropped (e ∷ es) a n k h = at (is_dropped a n e) (holds k e) refl refl (find_dropped es a n k h.1)
+  where
+    at : (t s : Bool) → is_dropped a n e ≡ t → holds k e ≡ s → find (drop_touched es a n) k ≡ unless_dropped a n (find es k)
+        → find (cond t (freed e) e ∷ drop_touched es a n) k ≡ unless_dropped a n (cond s (Some e) (find es k))
+    at true true f g i =
+        let d = held k e g in
+        let alone : find es k ≡ None = subst (λ (j : Key). find es j ≡ None) d.1 (h.0 d.0) in
+        rw f (i ∙ ap (unless_dropped a n) alone)
+    at true false f g i = i
+    at false true f g i = rw (f, g)
+    at false false f g i = rw g i
+
+apart_drop : (es : List Entry) (a n : ℕ) → Apart es → Apart (drop_touched es a n)
+apart_drop [] a n h = tt
+apart_drop (e ∷ es) a n h = at (is_dropped a n e) (apart_drop es a n h.1)
+  where
+    at : (t : Bool) → Apart (drop_touched es a n) → Apart (cond t (freed e) e ∷ drop_touched es a n)
+    at true i = ((λ u. absurd (true≢false (sym u))), i)
+    at false i = ((λ u. find_dropped es a n (key_of e) h.1 ∙ ap (unless_dropped a n) (h.0 u)), i)
+
+-- an entry with the mark 1 that shows a block is dropped where the write touches the bytes that the block spans
+drop_shows : (k : Key) (a n : ℕ) (o : Option NativeBlock) → unless_dropped a n (showing k o) ≡ showing k (unless_touched k a n o)
+drop_shows k a n None = refl
+drop_shows k a n (Some b) = at (touches k.pc b.span a n)
+  where
+    at : (t : Bool) → cond t None (showing k (Some b)) ≡ showing k (cond t None (Some b))
+    at true = refl
+    at false = refl
+
 -- an entry in use is found by its key
 found : (es : List Entry) (i : ℕ) (f : Entry) → slice_get es i ≡ Some f → is_in_use f ≡ true → find es (key_of f) ≡ None → ⊥
 found [] i f h u n = cc
@@ -289,6 +334,13 @@ module _ (es : List Entry) (happened : List Event) (p : Preserved es happened) w
   pub preserved_empty : Preserved (empty es) (emptied ∷ happened)
   preserved_empty = record { marks = marks_empty es; apart = apart_empty es; shows = find-empty es }
 
+  pub preserved_drop : (a n : ℕ) → Preserved (drop_touched es a n) (dropped a n ∷ happened)
+  preserved_drop a n = record {
+    marks = marks_drop es a n p.marks;
+    apart = apart_drop es a n p.apart;
+    shows = λ k. find_dropped es a n k p.apart ∙ ap (unless_dropped a n) (p.shows k) ∙ drop_shows k a n (last happened k);
+  }
+
 pub shows_last : (es : List Entry) (happened : List Event) → Preserved es happened → ShowsLast es happened
 shows_last es happened p = record { shows = p.shows; distinct = keys_distinct es p.apart }
 
@@ -300,6 +352,7 @@ preserved_after es [] h = preserved_start es h
 preserved_after es (inserts k b ∷ earlier) h =
     preserved_insert (after es earlier) (events es earlier) (preserved_after es earlier h) k b
 preserved_after es (empties ∷ earlier) h = preserved_empty (after es earlier) (events es earlier) (preserved_after es earlier h)
+preserved_after es (drops a n ∷ earlier) h = preserved_drop (after es earlier) (events es earlier) (preserved_after es earlier h) a n
 
 pub history : History
 history es operations h = shows_last (after es operations) (events es operations) (preserved_after es operations h)

@@ -1,4 +1,5 @@
 pub mod Scans
 pub mod LastShown
+pub mod Touching
 pub mod Refusing
 pub mod Cases

@@ -1,6 +1,6 @@
--- The index of blocks (document 02, Q-4): what find, insert and empty answer and leave, on a list of entries.
-use Rattle.std.specs.Prelude.{Bool, not, cond, ◌&&◌, List, [], ◌∷◌, ℕ, eqb, map, Option}
-use Rattle.std.specs.List.{list_any, position_or_len}
+-- The index of blocks (document 02, Q-4 and Q-5): what find, insert, empty and drop answer and leave, on a list of entries.
+use Rattle.std.specs.Prelude.{Bool, false, not, cond, ◌&&◌, ◌||◌, List, [], ◌∷◌, ℕ, zero, suc, ◌+◌, ◌%◌, ◌^◌, eqb, map, Option}
+use Rattle.std.specs.List.{list_any, position_or_len, count_by}
 use Rattle.std.specs.List as Lists
 use Rattle.entry.specs.declared.Key.{Key}
 use Rattle.entry.specs.declared.Entry.{Entry}
@@ -10,7 +10,7 @@ use Rattle.entry.specs.declared.NativeBlock.{NativeBlock}
 
 -- of zeros, and so not in use
 abbrev pub blank : Entry
-blank = record { satp = 0; pc = 0; block = record { offset = 0; count = 0 }; in_use = 0 }
+blank = record { satp = 0; pc = 0; block = record { offset = 0; count = 0; length = 0; span = 0 }; in_use = 0 }
 
 -- a mark of 0 means not in use, any other in use
 abbrev pub free : Entry → Bool
@@ -67,3 +67,24 @@ freed e = record { satp = e.satp; pc = e.pc; block = e.block; in_use = 0 }
 
 abbrev pub empty : List Entry → List Entry
 empty es = map freed es
+
+-- 6. Drop: a write of n bytes from an address a on clears the marks of the entries in use that it touches, under every satp, and nothing else
+
+-- some number below n passes
+abbrev pub any_below : ℕ → (ℕ → Bool) → Bool
+any_below zero p = false
+any_below (suc n) p = p n || any_below n p
+
+-- one of the bytes pc, pc + 1, .., pc + span - 1 is one of the bytes a, a + 1, .., a + n - 1: addresses are modulo 2^64
+unfoldable pub touches : ℕ → ℕ → ℕ → ℕ → Bool
+touches pc span a n = any_below span (λ i. any_below n (λ j. eqb ((pc + i) % 2 ^ 64) ((a + j) % 2 ^ 64)))
+
+abbrev pub is_dropped : ℕ → ℕ → Entry → Bool
+is_dropped a n e = is_in_use e && touches e.pc e.block.span a n
+
+abbrev pub drop_touched : List Entry → ℕ → ℕ → List Entry
+drop_touched es a n = map (λ e. cond (is_dropped a n e) (freed e) e) es
+
+-- how many
+abbrev pub drop_answer : List Entry → ℕ → ℕ → ℕ
+drop_answer es a n = count_by (is_dropped a n) es

@@ -1,7 +1,7 @@
--- What is proved beside the history: when an insert is refused.
-use Rattle.std.specs.Prelude.{◌≡◌, false, List, [], None}
+-- What is proved beside the history: when an insert is refused, and what no write touches.
+use Rattle.std.specs.Prelude.{◌≡◌, false, List, [], ℕ, None}
 use Rattle.std.specs.List.{list_any}
-use Rattle.entry.specs.Index.{free, find, insert_answer}
+use Rattle.entry.specs.Index.{free, find, insert_answer, touches}
 use Rattle.entry.specs.declared.Key.{Key}
 use Rattle.entry.specs.declared.Entry.{Entry}
 
@@ -12,3 +12,7 @@ pub record Refuses (es : List Entry) (k : Key) : Type 0 where
 
 abbrev pub RefusesWhenFull : Type 0
 RefusesWhenFull = (es : List Entry) (k : Key) → Refuses es k
+
+-- of any numbers: a write of no bytes touches nothing, and no write touches a block that spans none
+abbrev pub EmptyTouchesNothing : Type 0
+EmptyTouchesNothing = (pc span a n : ℕ) → (touches pc span a 0 ≡ false) × (touches pc 0 a n ≡ false)

@@ -7,7 +7,7 @@ use Rattle.entry.specs.History.{Event, outcome}
 use Rattle.index.specs.HistoryInCode.{Leads, Leads.begin, HistoryInCode}
 use Rattle.index.specs.HistoryInCode as Code
 use Rattle.entry.specs.declared.Entry.{Entry}
-use Rattle.entry.proofs.LastShown.{Preserved, preserved_start, preserved_insert, preserved_empty, shows_last}
+use Rattle.entry.proofs.LastShown.{Preserved, preserved_start, preserved_insert, preserved_empty, preserved_drop, shows_last}
 
 preserved_along : (es zs : List Entry) (all : List Event) → list_any is_in_use es ≡ false → Leads es all zs → Preserved zs all
 preserved_along es zs all h begin = preserved_start es h
@@ -17,6 +17,8 @@ preserved_along es zs all h (Code.Leads.insert {happened} {xs} {ys} {k} {b} {r} 
     (preserved_insert xs happened (preserved_along es xs happened h led) k b))
 preserved_along es zs all h (Code.Leads.empty {happened} {xs} {ys} {mark} led call) =
     subst (λ (l : List Entry). Preserved l all) (sym call.leaves) (preserved_empty xs happened (preserved_along es xs happened h led))
+preserved_along es zs all h (Code.Leads.drop {happened} {xs} {ys} {address} {n} {r} led call) =
+    subst (λ (l : List Entry). Preserved l all) (sym call.leaves) (preserved_drop xs happened (preserved_along es xs happened h led) address n)
 
 pub history_in_code : HistoryInCode
 history_in_code es xs happened h led =

@@ -1,6 +1,6 @@
 -- What the code's functions promise, by the definitions of Index.
 use Rattle.std.specs.Prelude.{◌≡◌, List, [], ◌∷◌, ℕ, Option, Result, Ok, Err}
-use Rattle.entry.specs.Index.{find, insert_answer, insert, empty}
+use Rattle.entry.specs.Index.{find, insert_answer, insert, empty, drop_touched, drop_answer}
 use Rattle.entry.specs.declared.Key.{Key}
 use Rattle.entry.specs.declared.Entry.{Entry}
 use Rattle.entry.specs.declared.NativeBlock.{NativeBlock}
@@ -24,3 +24,8 @@ pub record Inserts (es es' : List Entry) (k : Key) (b : NativeBlock) (r : Result
 pub record Empties (es es' : List Entry) (mark' : ℕ) : Type 0 where
   pub leaves : es' ≡ empty es
   pub clears : mark' ≡ 0
+
+-- how many were dropped, and every entry afterwards
+pub record Drops (es es' : List Entry) (address n : ℕ) (r : ℕ) : Type 0 where
+  pub answers : r ≡ drop_answer es address n
+  pub leaves : es' ≡ drop_touched es address n

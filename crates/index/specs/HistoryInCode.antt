@@ -1,10 +1,10 @@
--- The history, of the code: entries that calls of `insert` and `empty` have left one after the other. `History` (crate entry) takes what a
+-- The history, of the code: entries that calls of `insert`, `empty` and `drop_touched` have left one after the other. `History` (crate entry) takes what a
 -- call answers and leaves from the definition; here it is what the contracts allow, and nothing else is known of it.
 use Rattle.std.specs.Prelude.{◌≡◌, false, List, [], ◌∷◌, ℕ, Option, Result}
 use Rattle.std.specs.List.{list_any}
 use Rattle.entry.specs.Index.{is_in_use}
-use Rattle.index.specs.Answers.{numbered, Finds, Inserts, Empties}
-use Rattle.entry.specs.History.{Event, Event.emptied, last, outcome, showing, Distinct}
+use Rattle.index.specs.Answers.{numbered, Finds, Inserts, Empties, Drops}
+use Rattle.entry.specs.History.{Event, Event.emptied, Event.dropped, last, outcome, showing, Distinct}
 use Rattle.entry.specs.declared.Key.{Key}
 use Rattle.entry.specs.declared.Entry.{Entry}
 use Rattle.entry.specs.declared.NativeBlock.{NativeBlock}
@@ -17,6 +17,8 @@ pub data Leads (es : List Entry) : List Event → List Entry → Type 0 where
       → Leads es happened xs → Inserts xs ys k b r → Leads es (outcome (numbered r) k b ∷ happened) ys
   empty : {happened : List Event} {xs ys : List Entry} {mark : ℕ}
       → Leads es happened xs → Empties xs ys mark → Leads es (emptied ∷ happened) ys
+  drop : {happened : List Event} {xs ys : List Entry} {address n r : ℕ}
+      → Leads es happened xs → Drops xs ys address n r → Leads es (dropped address n ∷ happened) ys
 
 -- whatever a call of `find` then answers is what was last inserted
 pub record ShowsLastInCode (xs : List Entry) (happened : List Event) : Type 0 where

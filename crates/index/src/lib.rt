@@ -1,11 +1,11 @@
-// The index of blocks (document 02, Q-4): a caller lends a slice of entries.
+// The index of blocks (document 02, Q-4 and Q-5): a caller lends a slice of entries.
 #![tactic(auto)]
 
 ghost use Rattle.std.specs.Prelude.{◌≡◌};
 ghost use Rattle.std.specs.List.{position};
 ghost use Rattle.entry.specs.Index.{taken, renewed};
 ghost use Rattle.entry.specs.Index as Index;
-ghost use Rattle.index.specs.Answers.{Finds, Inserts, Empties};
+ghost use Rattle.index.specs.Answers.{Finds, Inserts, Empties, Drops};
 
 use entry::{Entry, Key, NativeBlock};
 use store::NativeCodeCache;
@@ -75,4 +75,19 @@ pub fn empty(entries: &mut [Entry], cache: &mut NativeCodeCache)
         e.in_use = 0;
     }
     cache.clear();
+}
+
+// The guest has written n bytes from an address on: the marks of the entries in use whose blocks span one of them are cleared, under
+// every satp. How many they were.
+pub fn drop_touched(entries: &mut [Entry], address: u64, n: u64) -> usize
+    ensures { Drops entries.old entries.new address n result }
+{
+    let mut dropped = 0;
+    for entry in entries.iter_mut() {
+        if entry.is_dropped(address, n) {
+            entry.in_use = 0;
+            dropped += 1;
+        }
+    }
+    dropped
 }

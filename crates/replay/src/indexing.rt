@@ -3,7 +3,7 @@ ghost use Rattle.std.specs.Prelude.{◌≡◌};
 ghost use Rattle.entry.specs.Index as Index;
 ghost use Rattle.table.specs.Held.{entries_of};
 ghost use Rattle.requests.specs.Indexing.{indexing_of, Fits};
-ghost use Rattle.replay.specs.Kept.{Answers, Replies};
+ghost use Rattle.replay.specs.Kept.{block_of, Answers, Replies};
 
 use crate::output::Output;
 use entry::{Entry, Key, NativeBlock};
@@ -15,25 +15,31 @@ use table::Table;
 fn print_entry<W: Write>(e: Entry, to: &mut Output<W>) {
     let block = e.block;
     to.print(format_args!(
-        "{},{:x},{:x},{},{}",
-        e.in_use, e.satp, e.pc, block.offset, block.count
+        "{},{:x},{:x},{},{},{},{}",
+        e.in_use, e.satp, e.pc, block.offset, block.count, block.length, block.span
     ));
+}
+
+fn native_block(asked: KeyedBlock) -> NativeBlock
+    ensures { result ≡ block_of asked }
+{
+    NativeBlock {
+        offset: asked.offset,
+        count: asked.count,
+        length: asked.length,
+        span: asked.span,
+    }
 }
 
 fn insert<W: Write>(table: &mut Table, asked: KeyedBlock, to: &mut Output<W>)
     ensures { entries_of table.new
-        ≡ Index.insert (entries_of table.old) (record { satp = asked.satp; pc = asked.pc })
-        (record { offset = asked.offset; count = asked.count }) }
+        ≡ Index.insert (entries_of table.old) (record { satp = asked.satp; pc = asked.pc }) (block_of asked) }
 {
     let key = Key {
         satp: asked.satp,
         pc: asked.pc,
     };
-    let block = NativeBlock {
-        offset: asked.offset,
-        count: asked.count,
-    };
-    match table.insert(key, block) {
+    match table.insert(key, native_block(asked)) {
         Ok(index) => to.print(format_args!("at {index}")),
         Err(_) => to.write(b"8"),
     }
@@ -47,6 +53,13 @@ fn find<W: Write>(table: &Table, key: Key, to: &mut Output<W>) {
         }
         None => to.write(b"none"),
     }
+}
+
+fn drop_touched<W: Write>(table: &mut Table, address: u64, n: u64, to: &mut Output<W>)
+    ensures { entries_of table.new ≡ Index.drop_touched (entries_of table.old) address n }
+{
+    let dropped = table.drop_touched(address, n);
+    to.print(format_args!("dropped {dropped}"));
 }
 
 // The store's mark is lent as a number that is not 0.
@@ -87,17 +100,13 @@ fn answer<W: Write>(asked: Indexing, table: &mut Table, to: &mut Output<W>) -> O
             if slot >= table.n {
                 return None;
             }
-            let block = NativeBlock {
-                offset: asked.offset,
-                count: asked.count,
-            };
             // As a caller would write it.
             table.set(
                 slot,
                 Entry {
                     satp: asked.satp,
                     pc: asked.pc,
-                    block,
+                    block: native_block(asked),
                     in_use,
                 },
             );
@@ -105,6 +114,7 @@ fn answer<W: Write>(asked: Indexing, table: &mut Table, to: &mut Output<W>) -> O
         }
         Indexing::Insert { block } => insert(table, block, to),
         Indexing::Find { satp, pc } => find(table, Key { satp, pc }, to),
+        Indexing::Drop { address, n } => drop_touched(table, address, n, to),
         Indexing::Empty => empty(table, to),
         Indexing::Show => show(table, to),
     }

@@ -1,28 +1,31 @@
 // Answers request lines on standard input in the form of the original Rust's harness, a reply line each:
 //
 //     T <start hex> <limit> <helper16 hex> <helper_mem hex> <output length> <hhhh,hhhh,... or ->
-//         block <length> <count> <bytes hex> | 1 | 2 <start hex> | 3 <index> | 4 <word hex> | 5
+//         block <length> <count> <bytes hex> <span> | 1 | 2 <start hex> | 3 <index> | 4 <word hex> | 5
 //     P <used> <store length> <code length>
 //         placed <offset> <new mark> | 6 | 7
 //     D <word hex>
 //         imm_i imm_s imm_b imm_u imm_j opcode rd funct3 rs1 rs2 funct7 imm12, in decimal, the immediates signed
 //     I new <n>
-//     I set <slot> <use> <satp hex> <pc hex> <offset> <count>
+//     I set <slot> <use> <satp hex> <pc hex> <offset> <count> <length> <span>
 //         ok
-//     I insert <satp hex> <pc hex> <offset> <count>
+//     I insert <satp hex> <pc hex> <offset> <count> <length> <span>
 //         at <index> | 8
 //     I find <satp hex> <pc hex>
-//         found <use>,<satp hex>,<pc hex>,<offset>,<count> | none
+//         found <use>,<satp hex>,<pc hex>,<offset>,<count>,<length>,<span> | none
+//     I drop <address hex> <n>
+//         dropped <how many>
 //     I empty
 //         mark 0
 //     I show
 //         every entry, as find shows it, a blank between two
 //
 // I lines ask an index of blocks that is kept from line to line: `new` makes one of n entries of zeros, 64 at most, and `set` writes one of
-// them as a caller would; a `set` of one that is not there is no request. Other numbers are decimal. A line that is no request, or has over
-// 8,192 bytes, or asks for lent bytes of over 65,536, gets `bad request`, and the program goes on. Where lent bytes or a mark changed that
-// must not, or a cleared mark is not 0, `touched` is behind the reply. Each line is answered as it comes, so that another program can
-// ask and wait for the reply. Where the input cannot be read or a reply cannot be written, the program ends with an error.
+// them as a caller would; a `set` of one that is not there is no request. `drop` tells of a write of n bytes from an address on. Other numbers
+// are decimal. A line that is no request, or has over 8,192 bytes, or asks for lent bytes of over 65,536, gets `bad request`, and the program
+// goes on. Where lent bytes or a mark changed that must not, or a cleared mark is not 0, `touched` is behind the reply. Each line is answered
+// as it comes, so that another program can ask and wait for the reply. Where the input cannot be read or a reply cannot be written, the
+// program ends with an error.
 #![tactic(auto)]
 
 mod decoding;

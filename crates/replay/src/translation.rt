@@ -20,13 +20,14 @@ fn print_part<W: Write>(part: &[u8], to: &mut Output<W>)
     to.write(&text[..2 * part.len()]);
 }
 
-fn print_block<W: Write>(code: &[u8], count: u32, to: &mut Output<W>) {
+fn print_block<W: Write>(code: &[u8], count: u32, span: u64, to: &mut Output<W>) {
     let length = code.len();
     to.print(format_args!("block {length} {count} "));
     // 256 bytes at a time, since each write is a call of the system.
     for part in code.chunks(256) {
         print_part(part, to);
     }
+    to.print(format_args!(" {span}"));
 }
 
 // Prints why there is no block.
@@ -45,7 +46,7 @@ fn print_answer<W: Write>(answer: Result<Block, Refusal>, out: &[u8], to: &mut O
     match answer {
         Ok(block) => {
             if let Some(code) = out.get(..block.length) {
-                print_block(code, block.count, to);
+                print_block(code, block.count, block.span, to);
             }
             block.length
         }

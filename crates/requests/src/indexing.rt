@@ -1,8 +1,8 @@
-// I lines, about the index of blocks: new <n>, set <slot> <use> <satp hex> <pc hex> <offset> <count>,
-// insert <satp hex> <pc hex> <offset> <count>, find <satp hex> <pc hex>, empty, show
+// I lines, about the index of blocks: new <n>, set <slot> <use> <satp hex> <pc hex> <offset> <count> <length> <span>,
+// insert <satp hex> <pc hex> <offset> <count> <length> <span>, find <satp hex> <pc hex>, drop <address hex> <n>, empty, show
 ghost use Rattle.std.specs.Prelude.{◌≡◌, IfSome};
 ghost use Rattle.requests.specs.Fields.{Passes};
-ghost use Rattle.requests.specs.Indexing.{block_at, new_of, set_of, insert_of, find_of, alone_of, indexing_of, Fits};
+ghost use Rattle.requests.specs.Indexing.{block_at, new_of, set_of, insert_of, find_of, drop_of, alone_of, indexing_of, Fits};
 
 use crate::fields::Fields;
 
@@ -13,6 +13,8 @@ pub struct KeyedBlock {
     pub pc: u64,
     pub offset: usize,
     pub count: u32,
+    pub length: usize,
+    pub span: u64,
 }
 
 #[derive(Clone, Copy)]
@@ -33,6 +35,10 @@ pub enum Indexing {
         satp: u64,
         pc: u64,
     },
+    Drop {
+        address: u64,
+        n: u64,
+    },
     Empty,
     Show,
 }
@@ -49,11 +55,15 @@ impl<'a> Fields<'a> {
         let pc = self.next_number(16)?;
         let offset = self.next_number(10)? as usize;
         let count = self.next_u32()?;
+        let length = self.next_number(10)? as usize;
+        let span = self.next_number(10)?;
         Some(KeyedBlock {
             satp,
             pc,
             offset,
             count,
+            length,
+            span,
         })
     }
 }
@@ -114,6 +124,19 @@ fn read_find(line: &[u8]) -> Option<Indexing>
     Some(Indexing::Find { satp, pc })
 }
 
+#[tactic(auto, unfolding(crate::specs::Indexing::drop_of))]
+fn read_drop(line: &[u8]) -> Option<Indexing>
+    ensures asked { result ≡ drop_of line.now }
+    ensures fits { IfSome result Fits }
+{
+    let mut fields = Fields { line, at: 0 };
+    fields.pass(b"I drop")?;
+    let address = fields.next_number(16)?;
+    let n = fields.next_number(10)?;
+    fields.end()?;
+    Some(Indexing::Drop { address, n })
+}
+
 // The same for a word with nothing behind it.
 #[tactic(auto, unfolding(crate::specs::Indexing::alone_of))]
 fn read_alone(line: &[u8], word: &[u8], request: Indexing) -> Option<Indexing>
@@ -133,6 +156,7 @@ pub fn read_indexing(line: &[u8]) -> Option<Indexing>
         .or_else(|| read_set(line))
         .or_else(|| read_insert(line))
         .or_else(|| read_find(line))
+        .or_else(|| read_drop(line))
         .or_else(|| read_alone(line, b"I empty", Indexing::Empty))
         .or_else(|| read_alone(line, b"I show", Indexing::Show))
 }

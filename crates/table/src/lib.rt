@@ -19,7 +19,7 @@ pub struct Table {
 impl Table {
     ghost use Rattle.std.specs.Prelude.{◌≡◌, replicate, set};
     ghost use Rattle.entry.specs.Index as Index;
-    ghost use Rattle.index.specs.Answers.{Finds, Inserts, Empties};
+    ghost use Rattle.index.specs.Answers.{Finds, Inserts, Empties, Drops};
     ghost use Rattle.table.specs.Held.{entries_of, AtFront};
 
     // n entries of zeros.
@@ -56,7 +56,7 @@ impl Table {
         }
     }
 
-    // The first n entries take the block, or are full; the others stay. Here and in `empty` the array is copied and stored back: where the
+    // The first n entries take the block, or are full; the others stay. Here, in `empty` and in `drop_touched` the array is copied and stored back: where the
     // struct has a ghost field, its array can't be lent from behind a `&mut`.
     pub fn insert(&mut self, key: Key, block: NativeBlock) -> Result<usize, Full>
         ensures { AtFront self.old self.new (λ es es'. Inserts es es' key block result) }
@@ -74,5 +74,15 @@ impl Table {
         let mut entries = self.entries;
         index::empty(&mut entries[..self.n], cache);
         self.entries = entries;
+    }
+
+    // Those of the first n entries that a write touches are dropped. How many they were.
+    pub fn drop_touched(&mut self, address: u64, n: u64) -> usize
+        ensures { AtFront self.old self.new (λ es es'. Drops es es' address n result) }
+    {
+        let mut entries = self.entries;
+        let answer = index::drop_touched(&mut entries[..self.n], address, n);
+        self.entries = entries;
+        answer
     }
 }

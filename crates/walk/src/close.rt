@@ -2,7 +2,7 @@
 ghost use Rattle.std.specs.Prelude.{◌≡◌, ◌≤◌};
 ghost use Rattle.agreement.specs.Common.{most_steps};
 ghost use Rattle.agreement.specs.X86.Encode.{bytes};
-ghost use Rattle.agreement.specs.Translation.Walk.{ending, goes_on, jumped, helper_at};
+ghost use Rattle.agreement.specs.Translation.Walk.{ending, goes_on, jumped, helper_at, size_of, spanned};
 ghost use Rattle.emitter.specs.Written.{Writes, HasRoom};
 ghost use Rattle.walk.specs.Walks.{end_as, helper_as, most, Closes};
 
@@ -39,6 +39,33 @@ pub enum End {
     GoesOn(u64),
     Jumped,
     Calls { helper: Helper, instr: u32, pc: u64 },
+}
+
+impl Helper {
+    // How many bytes the instruction has that the helper executes.
+    fn size(self) -> u64
+        ensures { result ≡ size_of (helper_as self) }
+    {
+        match self {
+            Helper::Halfword => 2,
+            Helper::Access => 4,
+        }
+    }
+}
+
+impl End {
+    // How many bytes of the guest's code the block spans, `emitted` words and the instruction that a helper executes.
+    #[tactic(auto, unfolding(agreement::specs::Translation::Walk::spanned))]
+    pub fn span(self, emitted: u32) -> u64
+        requires { emitted ≤ most_steps }
+        ensures { result ≡ spanned (end_as self) emitted }
+    {
+        let words = 4 * emitted as u64;
+        match self {
+            End::GoesOn(_) | End::Jumped => words,
+            End::Calls { helper, .. } => words + helper.size(),
+        }
+    }
 }
 
 #[tactic(auto, unfolding(agreement::specs::Translation::Walk::ending))]

@@ -104,45 +104,45 @@ cases =
     ∷ immediate U 0x800000B7 0xFFFFFFFF80000000
     -- `imm_b` of 0xFE000EE3 is -4
     ∷ immediate B 0xFE000EE3 (2 ^ 64 - 4)
-    -- 0x0000006F (JAL x0, 0): 67 bytes, count 1, RAX gets 0x80000000: 48B8 is MOV RAX, the number follows low byte first
-    ∷ translation 0x80000000 64 (words (0x0000006F ∷ [])) 0 (67 ∷ 1 ∷ [])
+    -- 0x0000006F (JAL x0, 0): 67 bytes, count 1, span 4, RAX gets 0x80000000: 48B8 is MOV RAX, the number follows low byte first
+    ∷ translation 0x80000000 64 (words (0x0000006F ∷ [])) 0 (67 ∷ 1 ∷ 4 ∷ [])
     (framed (dump 20 0x48B80000008000000000_48BA0100000000000000))
     -- 0x0000000F (FENCE) at 0xFFFFFFFFFFFFFFFC, limit 1: 67 bytes, RAX gets 0: the eight bytes behind 48B8
-    ∷ translation 0xFFFFFFFFFFFFFFFC 1 (words (0x0000000F ∷ [])) 0 (67 ∷ 1 ∷ [])
+    ∷ translation 0xFFFFFFFFFFFFFFFC 1 (words (0x0000000F ∷ [])) 0 (67 ∷ 1 ∷ 4 ∷ [])
     (framed (dump 20 0x48B80000000000000000_48BA0100000000000000))
-    -- 0x0000100F (FENCE.I) then 0x00500093: 67 bytes, count 1, RAX gets 0x80000004 (document 02, Q-1)
-    ∷ translation 0x80000000 64 (words (0x0000100F ∷ 0x00500093 ∷ [])) 0 (67 ∷ 1 ∷ [])
+    -- 0x0000100F (FENCE.I) then 0x00500093: 67 bytes, count 1, span 4, RAX gets 0x80000004 (document 02, Q-1)
+    ∷ translation 0x80000000 64 (words (0x0000100F ∷ 0x00500093 ∷ [])) 0 (67 ∷ 1 ∷ 4 ∷ [])
     (framed (dump 20 0x48B80400008000000000_48BA0100000000000000))
-    -- 0x00500093 (ADDI x1, x0, 5): 88 bytes, count 1
-    ∷ translation 0x80000000 64 (words (0x00500093 ∷ [])) 0 (88 ∷ 1 ∷ [])
+    -- 0x00500093 (ADDI x1, x0, 5): 88 bytes, count 1, span 4
+    ∷ translation 0x80000000 64 (words (0x00500093 ∷ [])) 0 (88 ∷ 1 ∷ 4 ∷ [])
     (framed (dump 41 0x4C8B9300000000_4981C205000000_4C899308000000_48B80400008000000000_48BA0100000000000000))
     -- Followed by 0x00000073 (ECALL): the same block
     ∷ same 0x80000000 64 (words (0x00500093 ∷ 0x00000073 ∷ [])) (words (0x00500093 ∷ []))
-    -- 0x00500093 then 0x4020C1B3 (funct7 0x20 on funct3 4), in place of MULH (document 02, Q-2): 102 bytes, count 1. The two
+    -- 0x00500093 then 0x4020C1B3 (funct7 0x20 on funct3 4), in place of MULH (document 02, Q-2): 102 bytes, count 1, span 4. The two
     -- register loads of the word that is not taken, 14 bytes, stay in
-    ∷ translation 0x80000000 64 (words (0x00500093 ∷ 0x4020C1B3 ∷ [])) 0 (102 ∷ 1 ∷ [])
+    ∷ translation 0x80000000 64 (words (0x00500093 ∷ 0x4020C1B3 ∷ [])) 0 (102 ∷ 1 ∷ 4 ∷ [])
     (framed (dump 21 0x4C8B9300000000_4981C205000000_4C899308000000
     ++ dump 34 0x4C8B9308000000_4C8B9B10000000_48B80400008000000000_48BA0100000000000000))
     -- 0x4020C1B3 first: number 4
     ∷ translation 0x80000000 64 (words (0x4020C1B3 ∷ [])) 4 (0x4020C1B3 ∷ []) []
-    -- 0x00500093 then halfword 0x0001: 116 bytes, count 2
-    ∷ translation 0x80000000 64 (words (0x00500093 ∷ []) ++ 0x0001 ∷ []) 0 (116 ∷ 2 ∷ [])
+    -- 0x00500093 then halfword 0x0001: 116 bytes, count 2, span 6
+    ∷ translation 0x80000000 64 (words (0x00500093 ∷ []) ++ 0x0001 ∷ []) 0 (116 ∷ 2 ∷ 6 ∷ [])
     (framed (dump 21 0x4C8B9300000000_4981C205000000_4C899308000000
     ++ dump 48 0x4C89E7_4C89EE_4C89F2_48B90100000000000000_49B80400008000000000_48B80000000000000000_FFD0_4881C201000000))
     -- 0x03F09093 (SLLI by 63): 85 bytes
-    ∷ translation 0x80000000 64 (words (0x03F09093 ∷ [])) 0 (85 ∷ 1 ∷ [])
+    ∷ translation 0x80000000 64 (words (0x03F09093 ∷ [])) 0 (85 ∷ 1 ∷ 4 ∷ [])
     (framed (dump 38 0x4C8B9308000000_49C1E23F_4C899308000000_48B80400008000000000_48BA0100000000000000))
     -- 0x0200909B (SLLIW by 32): number 4
     ∷ translation 0x80000000 64 (words (0x0200909B ∷ [])) 4 (0x0200909B ∷ []) []
     -- 0x00009067 (JALR x0, x1 with funct3 1): 81 bytes
-    ∷ translation 0x80000000 64 (words (0x00009067 ∷ [])) 0 (81 ∷ 1 ∷ [])
+    ∷ translation 0x80000000 64 (words (0x00009067 ∷ [])) 0 (81 ∷ 1 ∷ 4 ∷ [])
     (framed (dump 34 0x4C8B9308000000_4981C200000000_4981E2FEFFFFFF_4C89D0_48BA0100000000000000))
     -- sixty-four times 0x002091BB (SLLW): 2,243 bytes
-    ∷ translation 0x80000000 64 (copies 64 (words (0x002091BB ∷ []))) 0 (2243 ∷ 64 ∷ [])
+    ∷ translation 0x80000000 64 (copies 64 (words (0x002091BB ∷ []))) 0 (2243 ∷ 64 ∷ 256 ∷ [])
     (framed (copies 64 (dump 34 0x4C8B9308000000_4C8B9B10000000_4C89D9_4883E11F_41D3E2_4D63D2_4C899318000000)
     ++ dump 20 0x48B80001008000000000_48BA4000000000000000))
     -- sixty-four times 0x0220C1BB (DIVW): 4,099 bytes, the greatest of any block (document 02, Q-2)
-    ∷ translation 0x80000000 64 (copies 64 (words (0x0220C1BB ∷ []))) 0 (4099 ∷ 64 ∷ [])
+    ∷ translation 0x80000000 64 (copies 64 (words (0x0220C1BB ∷ []))) 0 (4099 ∷ 64 ∷ 256 ∷ [])
     (framed (copies 64 (dump 14 0x4C8B9308000000_4C8B9B10000000
     ++ dump 49 0x4D63D2_4D63DB_4C89D9_4883C101_4C89D0_490FAFC3_4829C8_4883F902_7207_4C89D0_99_41F7FB_4989C2_4D63D2_4C899318000000)
     ++ dump 20 0x48B80001008000000000_48BA4000000000000000))

@@ -22,7 +22,7 @@ use Rattle.agreement.proofs.Theorem.AlongTheRun.{Ends, Met, ends_here, ends_plai
 use Rattle.agreement.proofs.Checks.CodeChanges.{n0, new_code, old_meets, old_plain, old_x1, old_turn}
 
 -- the same turn, the code being another
-abbrev recoded : Turn → Code → ℕ → Turn
+abbrev pub recoded : Turn → Code → ℕ → Turn
 recoded t c n = record {
   limit = t.limit;
   made = t.made;

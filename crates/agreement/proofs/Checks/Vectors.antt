@@ -23,9 +23,9 @@ data Vector : Type 0 where
 abbrev translated : ℕ → ℕ → List ℕ → ℕ → Reply
 translated start limit hs room = translate start limit hs 0x1111111111111111 0x2222222222222222 room
 
--- words whose block has count 1, and its bytes between opening and closing
+-- words whose block has count 1 and spans the first, and its bytes between opening and closing
 abbrev single : List ℕ → List ℕ → Bool
-single ws bytes = is_reply (translated 0x80000000 64 (words ws) 4099) 0 (length (framed bytes) ∷ 1 ∷ []) (framed bytes)
+single ws bytes = is_reply (translated 0x80000000 64 (words ws) 4099) 0 (length (framed bytes) ∷ 1 ∷ 4 ∷ []) (framed bytes)
 
 -- RDX becomes the count; before that RAX the next pc, unless the word has set it
 abbrev counts : List ℕ
@@ -167,24 +167,24 @@ runs =
     ∷ leaves_nothing 0x0000200F  -- MISC-MEM funct3 2
     ∷ leaves_nothing 0x1005252F  -- AMO
     ∷ leaves_nothing 0xFFFFFFFF  -- low five bits 11111
-    ∷ run 0x80000000 64 (words (0x00500093 ∷ []) ++ 0x91B3 ∷ []) 4099 0 (88 ∷ 1 ∷ [])  -- OP, its upper half missing
+    ∷ run 0x80000000 64 (words (0x00500093 ∷ []) ++ 0x91B3 ∷ []) 4099 0 (88 ∷ 1 ∷ 4 ∷ [])  -- OP, its upper half missing
     (framed (dump 41 0x4C8B9300000000_4981C205000000_4C899308000000_48B80400008000000000_48BA0100000000000000))
     -- helper ends: earlier count 0, then 2
-    ∷ run 0x80000000 64 (0x4501 ∷ []) 4099 0 (88 ∷ 1 ∷ [])  -- halfword
+    ∷ run 0x80000000 64 (0x4501 ∷ []) 4099 0 (88 ∷ 1 ∷ 2 ∷ [])  -- halfword
     (framed (dump 41 0x4C89E7_4C89EE_4C89F2_48B90145000000000000_49B80000008000000000_48B81111111111111111_FFD0))
-    ∷ run 0x80000000 64 (words (0x00500093 ∷ 0xFFD08493 ∷ []) ++ 0x4501 ∷ []) 4099 0 (137 ∷ 3 ∷ [])  -- halfword
+    ∷ run 0x80000000 64 (words (0x00500093 ∷ 0xFFD08493 ∷ []) ++ 0x4501 ∷ []) 4099 0 (137 ∷ 3 ∷ 10 ∷ [])  -- halfword
     (framed (dump 48 0x4C8B9300000000_4981C205000000_4C899308000000_4C8B9308000000_4981C2FDFFFFFF_4C899348000000_4C89E7_4C89EE
     ++ dump 42 0x4C89F2_48B90145000000000000_49B80800008000000000_48B81111111111111111_FFD0_4881C202000000))
-    ∷ run 0x80000000 64 (0x0000 ∷ 0x0093 ∷ []) 4099 0 (88 ∷ 1 ∷ [])  -- halfword 0
+    ∷ run 0x80000000 64 (0x0000 ∷ 0x0093 ∷ []) 4099 0 (88 ∷ 1 ∷ 2 ∷ [])  -- halfword 0
     (framed (dump 41 0x4C89E7_4C89EE_4C89F2_48B90000000000000000_49B80000008000000000_48B81111111111111111_FFD0))
-    ∷ run 0x80000000 64 (words (0x00813083 ∷ [])) 4099 0 (88 ∷ 1 ∷ [])  -- LD
+    ∷ run 0x80000000 64 (words (0x00813083 ∷ [])) 4099 0 (88 ∷ 1 ∷ 4 ∷ [])  -- LD
     (framed (dump 41 0x4C89E7_4C89EE_4C89F2_48B98330810000000000_49B80000008000000000_48B82222222222222222_FFD0))
-    ∷ run 0x80000000 64 (words (0x00500093 ∷ 0xFFD08493 ∷ 0x00813083 ∷ [])) 4099 0 (137 ∷ 3 ∷ [])  -- LD
+    ∷ run 0x80000000 64 (words (0x00500093 ∷ 0xFFD08493 ∷ 0x00813083 ∷ [])) 4099 0 (137 ∷ 3 ∷ 12 ∷ [])  -- LD
     (framed (dump 48 0x4C8B9300000000_4981C205000000_4C899308000000_4C8B9308000000_4981C2FDFFFFFF_4C899348000000_4C89E7_4C89EE
     ++ dump 42 0x4C89F2_48B98330810000000000_49B80800008000000000_48B82222222222222222_FFD0_4881C202000000))
-    ∷ run 0x80000000 64 (words (0xFF1EBC23 ∷ [])) 4099 0 (88 ∷ 1 ∷ [])  -- SD
+    ∷ run 0x80000000 64 (words (0xFF1EBC23 ∷ [])) 4099 0 (88 ∷ 1 ∷ 4 ∷ [])  -- SD
     (framed (dump 41 0x4C89E7_4C89EE_4C89F2_48B923BC1EFF00000000_49B80000008000000000_48B82222222222222222_FFD0))
-    ∷ run 0x80000000 64 (words (0x00500093 ∷ 0xFFD08493 ∷ 0xFF1EBC23 ∷ [])) 4099 0 (137 ∷ 3 ∷ [])  -- SD
+    ∷ run 0x80000000 64 (words (0x00500093 ∷ 0xFFD08493 ∷ 0xFF1EBC23 ∷ [])) 4099 0 (137 ∷ 3 ∷ 12 ∷ [])  -- SD
     (framed (dump 48 0x4C8B9300000000_4981C205000000_4C899308000000_4C8B9308000000_4981C2FDFFFFFF_4C899348000000_4C89E7_4C89EE
     ++ dump 42 0x4C89F2_48B923BC1EFF00000000_49B80800008000000000_48B82222222222222222_FFD0_4881C202000000))
     -- the numbers 1 to 5, in their order
@@ -198,52 +198,52 @@ runs =
     ∷ run 0x80000000 64 (words (0x00500093 ∷ [])) 4098 5 [] []  -- output short by one
     ∷ run 0x80000000 64 (words (0x00500093 ∷ [])) 2243 5 [] []  -- output as long as the Rust's greatest block
     -- limits: 65 as 64; what stands behind the limit or an ending word is not looked at
-    ∷ run 0x80000000 65 (copies 65 (words (0x0000000F ∷ []))) 4099 0 (67 ∷ 64 ∷ [])  -- 65
+    ∷ run 0x80000000 65 (copies 65 (words (0x0000000F ∷ []))) 4099 0 (67 ∷ 64 ∷ 256 ∷ [])  -- 65
     (framed (dump 20 0x48B80001008000000000_48BA4000000000000000))
-    ∷ run 0x80000000 64 (copies 65 (words (0x0000000F ∷ []))) 4099 0 (67 ∷ 64 ∷ [])  -- 64
+    ∷ run 0x80000000 64 (copies 65 (words (0x0000000F ∷ []))) 4099 0 (67 ∷ 64 ∷ 256 ∷ [])  -- 64
     (framed (dump 20 0x48B80001008000000000_48BA4000000000000000))
-    ∷ run 0x80000000 4294967295 (copies 65 (words (0x0000000F ∷ []))) 4099 0 (67 ∷ 64 ∷ [])  -- 2^32 - 1
+    ∷ run 0x80000000 4294967295 (copies 65 (words (0x0000000F ∷ []))) 4099 0 (67 ∷ 64 ∷ 256 ∷ [])  -- 2^32 - 1
     (framed (dump 20 0x48B80001008000000000_48BA4000000000000000))
-    ∷ run 0x80000000 64 (copies 63 (words (0x0000000F ∷ [])) ++ 0x0001 ∷ []) 4099 0 (95 ∷ 64 ∷ [])  -- 64, halfword the 64th
+    ∷ run 0x80000000 64 (copies 63 (words (0x0000000F ∷ [])) ++ 0x0001 ∷ []) 4099 0 (95 ∷ 64 ∷ 254 ∷ [])  -- 64, halfword the 64th
     (framed (dump 48 0x4C89E7_4C89EE_4C89F2_48B90100000000000000_49B8FC00008000000000_48B81111111111111111_FFD0_4881C23F000000))
-    ∷ run 0x80000000 65 (copies 64 (words (0x0000000F ∷ [])) ++ 0x0001 ∷ []) 4099 0 (67 ∷ 64 ∷ [])  -- 64, halfword the 65th
+    ∷ run 0x80000000 65 (copies 64 (words (0x0000000F ∷ [])) ++ 0x0001 ∷ []) 4099 0 (67 ∷ 64 ∷ 256 ∷ [])  -- 64, halfword the 65th
     (framed (dump 20 0x48B80001008000000000_48BA4000000000000000))
-    ∷ run 0x80000000 1 (words (0x0000000F ∷ 0x022091B3 ∷ [])) 4099 0 (67 ∷ 1 ∷ [])  -- 1, MULH behind
+    ∷ run 0x80000000 1 (words (0x0000000F ∷ 0x022091B3 ∷ [])) 4099 0 (67 ∷ 1 ∷ 4 ∷ [])  -- 1, MULH behind
     (framed (dump 20 0x48B80400008000000000_48BA0100000000000000))
-    ∷ run 0x80000000 64 (words (0x00500093 ∷ 0x00008463 ∷ 0xFFD08493 ∷ [])) 4099 0 (122 ∷ 2 ∷ [])  -- BEQ ends the block
+    ∷ run 0x80000000 64 (words (0x00500093 ∷ 0x00008463 ∷ 0xFFD08493 ∷ [])) 4099 0 (122 ∷ 2 ∷ 8 ∷ [])  -- BEQ ends the block
     (framed (dump 48 0x4C8B9300000000_4981C205000000_4C899308000000_4C8B9308000000_4C8B9B00000000_4D39DA_49BB0800008000000000
     ++ dump 27 0x48B80C00008000000000_4C0F44D8_4C89D8_48BA0200000000000000))
     -- addresses go on from 2^64 - 1 to 0
-    ∷ run 0xFFFFFFFFFFFFFFFC 64 (words (0x0000000F ∷ 0x00001097 ∷ []) ++ 0x0001 ∷ []) 4099 0 (112 ∷ 3 ∷ [])  -- AUIPC, halfword
+    ∷ run 0xFFFFFFFFFFFFFFFC 64 (words (0x0000000F ∷ 0x00001097 ∷ []) ++ 0x0001 ∷ []) 4099 0 (112 ∷ 3 ∷ 10 ∷ [])  -- AUIPC, halfword
     (framed (dump 46 0x49BA0010000000000000_4C899308000000_4C89E7_4C89EE_4C89F2_48B90100000000000000_49B80400000000000000
     ++ dump 19 0x48B81111111111111111_FFD0_4881C202000000))
-    ∷ run 0xFFFFFFFFFFFFFFFC 64 (words (0xFFDFF0EF ∷ [])) 4099 0 (84 ∷ 1 ∷ [])  -- JAL, its link 0
+    ∷ run 0xFFFFFFFFFFFFFFFC 64 (words (0xFFDFF0EF ∷ [])) 4099 0 (84 ∷ 1 ∷ 4 ∷ [])  -- JAL, its link 0
     (framed (dump 37 0x49BA0000000000000000_4C899308000000_48B8F8FFFFFFFFFFFFFF_48BA0100000000000000)) ∷ []
 
 -- FENCE.I ends its block (document 02, Q-1): the Rust's block of the run cut behind it. FENCE does not end it: the Rust's of the whole run
 fences : List Vector
 fences =
-    run 0x80000000 64 (words (0x0000108F ∷ 0x00500093 ∷ [])) 4099 0 (67 ∷ 1 ∷ [])  -- FENCE.I, rd x1
+    run 0x80000000 64 (words (0x0000108F ∷ 0x00500093 ∷ [])) 4099 0 (67 ∷ 1 ∷ 4 ∷ [])  -- FENCE.I, rd x1
     (framed (dump 20 0x48B80400008000000000_48BA0100000000000000))
     ∷ run 0x80000000 64 (words (0xFFFFFF8F ∷ [])) 4099 4 (0xFFFFFF8F ∷ []) []  -- MISC-MEM funct3 7
-    ∷ run 0x80000000 64 (words (0xFFFF9F8F ∷ 0x00500093 ∷ [])) 4099 0 (67 ∷ 1 ∷ [])  -- FENCE.I, all other fields ones
+    ∷ run 0x80000000 64 (words (0xFFFF9F8F ∷ 0x00500093 ∷ [])) 4099 0 (67 ∷ 1 ∷ 4 ∷ [])  -- FENCE.I, all other fields ones
     (framed (dump 20 0x48B80400008000000000_48BA0100000000000000))
-    ∷ run 0x80000000 64 (words (0x0000000F ∷ 0x00500093 ∷ [])) 4099 0 (88 ∷ 2 ∷ [])  -- FENCE
+    ∷ run 0x80000000 64 (words (0x0000000F ∷ 0x00500093 ∷ [])) 4099 0 (88 ∷ 2 ∷ 8 ∷ [])  -- FENCE
     (framed (dump 41 0x4C8B9300000000_4981C205000000_4C899308000000_48B80800008000000000_48BA0200000000000000))
-    ∷ run 0x80000000 64 (words (0x00500093 ∷ 0x0000100F ∷ 0x00500093 ∷ [])) 4099 0 (88 ∷ 2 ∷ [])  -- between two
+    ∷ run 0x80000000 64 (words (0x00500093 ∷ 0x0000100F ∷ 0x00500093 ∷ [])) 4099 0 (88 ∷ 2 ∷ 8 ∷ [])  -- between two
     (framed (dump 41 0x4C8B9300000000_4981C205000000_4C899308000000_48B80800008000000000_48BA0200000000000000))
-    ∷ run 0x80000000 64 (words (0x00000013 ∷ 0x0000100F ∷ [])) 4099 0 (81 ∷ 2 ∷ [])  -- the run's last
+    ∷ run 0x80000000 64 (words (0x00000013 ∷ 0x0000100F ∷ [])) 4099 0 (81 ∷ 2 ∷ 8 ∷ [])  -- the run's last
     (framed (dump 34 0x4C8B9300000000_4981C200000000_48B80800008000000000_48BA0200000000000000))
-    ∷ run 0xFFFFFFFFFFFFFFFC 64 (words (0x0000100F ∷ 0x00500093 ∷ [])) 4099 0 (67 ∷ 1 ∷ [])  -- RAX gets 0
+    ∷ run 0xFFFFFFFFFFFFFFFC 64 (words (0x0000100F ∷ 0x00500093 ∷ [])) 4099 0 (67 ∷ 1 ∷ 4 ∷ [])  -- RAX gets 0
     (framed (dump 20 0x48B80000000000000000_48BA0100000000000000))
-    ∷ run 0x80000000 64 (words (0x0000100F ∷ []) ++ 0x0001 ∷ []) 4099 0 (67 ∷ 1 ∷ [])  -- a halfword behind
+    ∷ run 0x80000000 64 (words (0x0000100F ∷ []) ++ 0x0001 ∷ []) 4099 0 (67 ∷ 1 ∷ 4 ∷ [])  -- a halfword behind
     (framed (dump 20 0x48B80400008000000000_48BA0100000000000000))
-    ∷ run 0x80000000 64 (copies 63 (words (0x01FF1EBB ∷ [])) ++ words (0x0000100F ∷ [])) 4099 0 (2209 ∷ 64 ∷ [])  -- the 64th, SLLW before
+    ∷ run 0x80000000 64 (copies 63 (words (0x01FF1EBB ∷ [])) ++ words (0x0000100F ∷ [])) 4099 0 (2209 ∷ 64 ∷ 256 ∷ [])  -- the 64th, SLLW before
     (framed (copies 63 (dump 34 0x4C8B93F0000000_4C8B9BF8000000_4C89D9_4883E11F_41D3E2_4D63D2_4C8993E8000000)
     ++ dump 20 0x48B80001008000000000_48BA4000000000000000))
-    ∷ run 0x80000000 64 (copies 64 (words (0x0000000F ∷ []))) 4099 0 (67 ∷ 64 ∷ [])  -- 64 times FENCE
+    ∷ run 0x80000000 64 (copies 64 (words (0x0000000F ∷ []))) 4099 0 (67 ∷ 64 ∷ 256 ∷ [])  -- 64 times FENCE
     (framed (dump 20 0x48B80001008000000000_48BA4000000000000000))
-    ∷ run 0x80000000 64 (copies 64 (words (0x0000100F ∷ []))) 4099 0 (67 ∷ 1 ∷ [])  -- 64 times FENCE.I
+    ∷ run 0x80000000 64 (copies 64 (words (0x0000100F ∷ []))) 4099 0 (67 ∷ 1 ∷ 4 ∷ [])  -- 64 times FENCE.I
     (framed (dump 20 0x48B80400008000000000_48BA0100000000000000)) ∷ []
 
 -- every bit of a word by itself, then all of them

@@ -1,8 +1,8 @@
 -- Runs of the guest's code: code that has changed elsewhere has the same run, and every run is the run of some code.
 use Rattle.std.proofs.Common.{◌≡◌, refl, ap, ◌∙◌, ◌≢◌, cond, List, [], ◌∷◌, ℕ, zero, suc, ◌+◌, ◌*◌, ◌/◌, ◌%◌, ◌^◌, ◌≤◌, ◌<◌, arith, eqb}
-use Rattle.std.proofs.Common.{length}
+use Rattle.std.proofs.Common.{length, sym, take}
 use mathlib.Core.Option.{Option, none, some}
-use Rattle.agreement.specs.Riscv.Code.{Code, front, run_at}
+use Rattle.agreement.specs.Riscv.Code.{Code, SameIn, front, run_at}
 use Rattle.agreement.specs.Riscv.Fields.{plus}
 use Rattle.agreement.specs.Laws.{Halfwords, RunsAlike, RunsHeld}
 use Rattle.agreement.proofs.Laws.Tests.{eqb_no, eqb_yes}
@@ -32,6 +32,28 @@ alike c d pc (suc n) low h =
 
     later : (k : ℕ) → k < n → c ((plus pc 2 + 2 * k) % 2 ^ 64) ≡ d ((plus pc 2 + 2 * k) % 2 ^ 64)
     later k l = rw (further pc k) (h (suc k) (omega (arith, l)))
+
+-- of codes that have the same in the bytes of m halfwords from pc on, those halfwords, where the one has them
+pub front_alike : (c d : Code) (pc m i j : ℕ) → pc < 2 ^ 64 → m ≤ length (run_at c pc i) → m ≤ j → SameIn pc (2 * m) c d
+    → take m (run_at d pc j) ≡ take m (run_at c pc i)
+unfolding run_at
+front_alike c d pc zero i j low a b h = refl
+front_alike c d pc (suc m) zero j low a b h = absurd (omega (arith, a))
+front_alike c d pc (suc m) (suc i) zero low a b h = absurd (omega (arith, b))
+front_alike c d pc (suc m) (suc i) (suc j) low a b h =
+    go (c pc) a first (λ l. front_alike c d (plus pc 2) m i j (omega arith) l (omega (arith, b)) later)
+  where
+    first : d pc ≡ c pc
+    first = let e : (pc + 2 * 0) % 2 ^ 64 ≡ pc = omega (arith, low) in ap d (sym e) ∙ sym (h 0 (omega arith)) ∙ ap c e
+
+    later : SameIn (plus pc 2) (2 * m) c d
+    later k l = ap c (further pc k) ∙ h (suc k) (omega (arith, l)) ∙ ap d (sym (further pc k))
+
+    go : (o : Option ℕ) → suc m ≤ length (front o (run_at c (plus pc 2) i)) → d pc ≡ o
+        → (m ≤ length (run_at c (plus pc 2) i) → take m (run_at d (plus pc 2) j) ≡ take m (run_at c (plus pc 2) i))
+        → take (suc m) (front (d pc) (run_at d (plus pc 2) j)) ≡ take (suc m) (front o (run_at c (plus pc 2) i))
+    go none s e r = absurd (omega (arith, s))
+    go (some x) s e r = rw e (ap (λ (l : List ℕ). x % 2 ^ 16 ∷ l) (r (omega (arith, s))))
 
 -- a run is made of halfwords, whatever the code
 pub run_halfwords : (c : Code) (pc n : ℕ) → Halfwords (run_at c pc n)

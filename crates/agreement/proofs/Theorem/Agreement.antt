@@ -3,6 +3,8 @@ use Rattle.std.proofs.Common.{List, [], ◌∷◌, ◌∙◌, ◌≡◌, ap, ref
 use Rattle.agreement.specs.Riscv.Run.{GuestState, manual, turn}
 use Rattle.agreement.specs.Translation.Replies.{Block, Reply.block}
 use Rattle.agreement.specs.Statement.Agreement.{Agreement, Along, At, feed, feeds, start}
+use Rattle.agreement.specs.Statement.Agreement as Statement
+use Rattle.agreement.specs.X86.Memory.{read}
 use Rattle.agreement.specs.Statement.Machine.{Event, History, RegisterBytes, Turn, Turned, reply, since}
 use Rattle.agreement.specs.Statement.Machine.History.{end, then}
 use Rattle.agreement.specs.Statement.Premises.{Enterable, Premises, Typed, Unchanged}
@@ -10,18 +12,18 @@ use Rattle.agreement.proofs.Theorem.Determined.{history_once}
 use Rattle.agreement.proofs.Theorem.TurnByTurn.{Led, SlotsAre, led}
 
 -- the statement from any state m of the manual's run that the register bytes rb agree with
-record Result (m : GuestState) (rb : RegisterBytes) (ts : List Turn) : Type 0 where
-  events : List Event
-  pc' : ℕ
-  rb' : RegisterBytes
-  history : History m.pc rb ts events pc' rb'
-  at_pc : pc' ≡ (manual (feeds ts events) m).pc
-  at_slots : SlotsAre rb' (manual (feeds ts events) m)
-  at_x0 : (manual (feeds ts events) m).registers 0 ≡ 0
-  at_count : since m.count events ≡ (manual (feeds ts events) m).count
-  along : Along m ts events
+pub record Result (m : GuestState) (rb : RegisterBytes) (ts : List Turn) : Type 0 where
+  pub events : List Event
+  pub pc' : ℕ
+  pub rb' : RegisterBytes
+  pub history : History m.pc rb ts events pc' rb'
+  pub at_pc : pc' ≡ (manual (feeds ts events) m).pc
+  pub at_slots : SlotsAre rb' (manual (feeds ts events) m)
+  pub at_x0 : (manual (feeds ts events) m).registers 0 ≡ 0
+  pub at_count : since m.count events ≡ (manual (feeds ts events) m).count
+  pub along : Along m ts events
 
-nothing : (m : GuestState) (rb : RegisterBytes)
+unfoldable pub nothing : (m : GuestState) (rb : RegisterBytes)
     → SlotsAre rb m → m.registers 0 ≡ 0 → Result m rb []
 unfolding manual feeds since Along
 nothing m rb sl z = record {
@@ -36,18 +38,18 @@ nothing m rb sl z = record {
   along = tt;
 }
 
-manual-cons : (t : Turn) (ts : List Turn) (e : Event) (es : List Event) (m : GuestState)
+pub manual-cons : (t : Turn) (ts : List Turn) (e : Event) (es : List Event) (m : GuestState)
     → manual (feeds (t ∷ ts) (e ∷ es)) m ≡ manual (feeds ts es) (turn (feed t e) m)
 unfolding manual feeds
 manual-cons t ts e es m = refl
 
-along_cons : (t : Turn) (ts : List Turn) (e : Event) (es : List Event) (m : GuestState)
+pub along_cons : (t : Turn) (ts : List Turn) (e : Event) (es : List Event) (m : GuestState)
     → At m t e → Along (turn (feed t e) m) ts es → Along m (t ∷ ts) (e ∷ es)
 unfolding Along
 along_cons t ts e es m a r = (a, r)
 
 -- one more turn in front
-one_more : (t : Turn) (ts : List Turn) (m : GuestState) (rb : RegisterBytes) (l : Led t m rb)
+unfoldable pub one_more : (t : Turn) (ts : List Turn) (m : GuestState) (rb : RegisterBytes) (l : Led t m rb)
     → Result l.m2 l.rb' ts → Result m rb (t ∷ ts)
 one_more t ts m rb l r =
     let e : Event = l.e in
@@ -68,12 +70,12 @@ one_more t ts m rb l r =
     }
 
 -- what is asked of the first turn, and of the others after it
-abbrev Asked : ℕ → RegisterBytes → Turn → List Turn → Type 0
+abbrev pub Asked : ℕ → RegisterBytes → Turn → List Turn → Type 0
 Asked pc rb t ts =
     Typed t × Unchanged t pc × ((b : Block) → reply t pc ≡ block b → Enterable t b rb)
     × ((e : Event) (pc' : ℕ) (rb' : RegisterBytes) → Turned pc rb t e pc' rb' → Premises pc' rb' ts)
 
-split : (pc : ℕ) (rb : RegisterBytes) (t : Turn) (ts : List Turn) → Premises pc rb (t ∷ ts) → Asked pc rb t ts
+pub split : (pc : ℕ) (rb : RegisterBytes) (t : Turn) (ts : List Turn) → Premises pc rb (t ∷ ts) → Asked pc rb t ts
 unfolding Premises
 split pc rb t ts h = h
 
@@ -98,20 +100,25 @@ turns (t ∷ ts) m rb g low sl z = go (turns ts)
     go : Agrees ts → Result m rb (t ∷ ts)
     go k = one_more t ts m rb l (k l.m2 l.rb' later l.low l.slots l.x0)
 
+-- from the start of a list
+unfoldable pub from_start : (pc : ℕ) (rb : RegisterBytes) (ts : List Turn) → Result (start pc rb) rb ts → Statement.Agrees pc rb ts
+from_start pc rb ts r = record {
+  events = r.events;
+  pc' = r.pc';
+  rb' = r.rb';
+  history = r.history;
+  only = λ es p b h. let q = history_once r.history h in (q.events, q.pcs, q.bytes);
+  at_pc = r.at_pc;
+  at_slots = r.at_slots;
+  at_x0 = r.at_x0;
+  at_count = r.at_count;
+  along = r.along;
+}
+
+-- what is asked of the start is met by the manual's
+pub x0_at_start : (pc : ℕ) (rb : RegisterBytes) → read 8 rb 0 ≡ 0 → (start pc rb).registers 0 ≡ 0
+x0_at_start pc rb z = let e : 8 * 0 ≡ 0 = omega arith in rw e z
+
 pub agreement : Agreement
 unfolding Agreement
-agreement pc rb ts low z g =
-    let e : 8 * 0 ≡ 0 = omega arith in
-    let r = turns ts (start pc rb) rb g low (λ i l. refl) (rw e z) in
-    record {
-      events = r.events;
-      pc' = r.pc';
-      rb' = r.rb';
-      history = r.history;
-      only = λ es p b h. let q = history_once r.history h in (q.events, q.pcs, q.bytes);
-      at_pc = r.at_pc;
-      at_slots = r.at_slots;
-      at_x0 = r.at_x0;
-      at_count = r.at_count;
-      along = r.along;
-    }
+agreement pc rb ts low z g = from_start pc rb ts (turns ts (start pc rb) rb g low (λ i l. refl) (x0_at_start pc rb z))

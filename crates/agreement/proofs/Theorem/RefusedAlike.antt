@@ -1,6 +1,6 @@
 -- The table of replies and the manual's own reading of it refuse the same turns; bounds of a walk.
 use Rattle.std.proofs.Common.{Bool, cond, false, true, List, [], ◌∷◌, ◌∙◌, ◌≡◌, refl, subst, sym, ◌%◌, ◌<◌, ◌^◌, ◌≤◌, suc, zero, ℕ, arith}
-use Rattle.std.proofs.Common.{bit_and, eqb, ltb, length}
+use Rattle.std.proofs.Common.{bit_and, eqb, ltb}
 use Rattle.agreement.specs.Common.{Helper.for_halfword, greatest}
 use Rattle.agreement.specs.Riscv.Fields.{plus}
 use Rattle.agreement.specs.Riscv.Instruction.{Instruction}
@@ -8,12 +8,12 @@ use Rattle.agreement.specs.Riscv.Instruction.Instruction.{AUIPC, FENCE, FENCE_I,
 use Rattle.agreement.specs.Riscv.Instruction.Instruction.{unmodelled}
 use Rattle.agreement.specs.Riscv.Run.{chosen, first_refused, is_long, is_not_taken, refused, taken, word_of}
 use Rattle.agreement.specs.Translation.Kind.{kind}
-use Rattle.agreement.specs.Translation.Replies.{Block, Refusal, block_of, by_first, first, first_word, translate, walked}
+use Rattle.agreement.specs.Translation.Replies.{Block, Refusal, Reply, block_of, by_first, first, first_word, translate, walked}
 use Rattle.agreement.specs.Translation.Replies.First.{begins, lacks, untaken}
 use Rattle.agreement.specs.Translation.Replies.Refusal.{limit_zero, missing, not_taken, odd_start, output_short}
 use Rattle.agreement.specs.Translation.Replies.Reply.{block, refusal}
 use Rattle.agreement.specs.Translation.Walk.{End, End.calls, End.goes_on, End.jumped, Walked, emit, helps, stops_at, walk}
-use Rattle.agreement.specs.Statement.Machine.{Turn, reply}
+use Rattle.agreement.specs.Statement.Machine.{Turn}
 use Rattle.agreement.specs.Statement.Premises.{Unchanged}
 use Rattle.agreement.specs.Laws.{Halfwords}
 use Rattle.agreement.proofs.Laws.Runs.{run_halfwords}
@@ -64,36 +64,44 @@ first_is (h ∷ u ∷ hs) l = go (is_long h) refl (chosen (taken (word_of h u)))
 
 -- 2. The reply
 
-abbrev block_at : Turn → ℕ → Block
-block_at t pc = block_of t.helper16 t.helper_mem (walked pc t.limit t.made)
-
-abbrev turn_refused : Turn → ℕ → Bool
-turn_refused t pc = refused t.limit pc t.made (length t.output)
-
-pub data Replied (t : Turn) (pc : ℕ) : Type 0 where
-  out : (r : Refusal) → reply t pc ≡ refusal r → refused t.limit pc t.made (length t.output) ≡ true → Replied t pc
-  came : reply t pc ≡ block (block_of t.helper16 t.helper_mem (walked pc t.limit t.made))
-      → refused t.limit pc t.made (length t.output) ≡ false → Replied t pc
+pub data Replied (start limit : ℕ) (hs : List ℕ) (helper16 helper_mem room : ℕ) : Type 0 where
+  out : (r : Refusal) → translate start limit hs helper16 helper_mem room ≡ refusal r → refused limit start hs room ≡ true
+      → Replied start limit hs helper16 helper_mem room
+  came : translate start limit hs helper16 helper_mem room ≡ block (block_of helper16 helper_mem (walked start limit hs))
+      → refused limit start hs room ≡ false → Replied start limit hs helper16 helper_mem room
 
 -- a block is made of halfwords, since it is made from a run
 pub made_halfwords : (t : Turn) (pc : ℕ) → Unchanged t pc → Halfwords t.made
 made_halfwords t pc un = subst Halfwords (sym un) (run_halfwords t.code pc t.reach)
 
-pub replied : (t : Turn) (pc : ℕ) → Halfwords t.made → Replied t pc
-replied t pc l = go (eqb t.limit 0) (eqb (pc % 2) 1) (ltb (length t.output) greatest) refl refl refl (first_is t.made l)
-  where
-    go : (a b c : Bool) → eqb t.limit 0 ≡ a → eqb (pc % 2) 1 ≡ b
-        → ltb (length t.output) greatest ≡ c → FirstIs t.made → Replied t pc
-    go true b c p q r f = out limit_zero (unfold translate in rw (p, translate)) (unfold refused in rw p)
-    go false true c p q r f = out (odd_start pc) (unfold translate in rw (p, translate) (rw q)) (unfold refused in rw (p, q))
-    go false false c p q r (lacks_first i e h) =
-        out (missing i) (unfold translate by_first in rw (p, translate) (rw q (rw e))) (unfold refused in rw (p, q, h))
-    go false false c p q r (untaken_first w e h) =
-        out (not_taken w) (unfold translate by_first in rw (p, translate) (rw q (rw e))) (unfold refused in rw (p, q, h))
-    go false false true p q r (taken-first e h) =
-        out output_short (unfold translate by_first in rw (p, translate) (rw q (rw e (rw (r, by_first))))) (unfold refused in rw (p, q, h, r))
-    go false false false p q r (taken-first e h) =
-        came (unfold translate by_first in rw (p, translate) (rw q (rw e (rw (r, by_first))))) (unfold refused in rw (p, q, h, r))
+module _ (start limit : ℕ) (hs : List ℕ) (helper16 helper_mem room : ℕ) where
+  pub replied : Halfwords hs → Replied start limit hs helper16 helper_mem room
+  replied l = go (eqb limit 0) (eqb (start % 2) 1) (ltb room greatest) refl refl refl (first_is hs l)
+    where
+      go : (a b c : Bool) → eqb limit 0 ≡ a → eqb (start % 2) 1 ≡ b → ltb room greatest ≡ c → FirstIs hs
+          → Replied start limit hs helper16 helper_mem room
+      go true b c p q r f = out limit_zero (unfold translate in rw (p, translate)) (unfold refused in rw p)
+      go false true c p q r f = out (odd_start start) (unfold translate in rw (p, translate) (rw q)) (unfold refused in rw (p, q))
+      go false false c p q r (lacks_first i e h) =
+          out (missing i) (unfold translate by_first in rw (p, translate) (rw q (rw e))) (unfold refused in rw (p, q, h))
+      go false false c p q r (untaken_first w e h) =
+          out (not_taken w) (unfold translate by_first in rw (p, translate) (rw q (rw e))) (unfold refused in rw (p, q, h))
+      go false false true p q r (taken-first e h) =
+          out output_short (unfold translate by_first in rw (p, translate) (rw q (rw e (rw (r, by_first))))) (unfold refused in rw (p, q, h, r))
+      go false false false p q r (taken-first e h) =
+          came (unfold translate by_first in rw (p, translate) (rw q (rw e (rw (r, by_first))))) (unfold refused in rw (p, q, h, r))
+
+  -- what is known of a block that was the reply
+  pub record IsWalk (b : Block) : Type 0 where
+    pub is : b ≡ block_of helper16 helper_mem (walked start limit hs)
+    pub accepted : refused limit start hs room ≡ false
+
+  pub is_walk : (b : Block) → Halfwords hs → translate start limit hs helper16 helper_mem room ≡ block b → IsWalk b
+  is_walk b l e = go (replied l)
+    where
+      go : Replied start limit hs helper16 helper_mem room → IsWalk b
+      go (out r f z) = absurd (let x : ◌≡◌ {A = Reply} (refusal r) (block b) = sym f ∙ e in let z : ◌≡◌ {A = ℕ} 0 1 = cc in omega arith)
+      go (came f z) = record { is = let x : ◌≡◌ {A = Reply} (block b) (block (block_of helper16 helper_mem (walked start limit hs))) = sym e ∙ f in cc; accepted = z }
 
 -- 3. Bounds of a walk: 64-bit addresses, no more instructions than were asked for
 

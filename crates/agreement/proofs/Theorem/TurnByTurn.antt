@@ -1,5 +1,5 @@
 -- One turn, refused or entered, leads where the manual's run goes.
-use Rattle.std.proofs.Common.{true, List, ◌∷◌, ◌≡◌, refl, ◌*◌, ◌<◌, ◌^◌, ℕ}
+use Rattle.std.proofs.Common.{true, List, ◌∷◌, ◌≡◌, refl, ◌*◌, ◌<◌, ◌^◌, ℕ, length}
 use mathlib.Core.Option.{none}
 use Rattle.agreement.specs.Riscv.Run.{GuestState, turn}
 use Rattle.agreement.specs.Translation.Replies.{Block, Refusal, Reply.block, Reply.refusal}
@@ -68,8 +68,8 @@ entered t m rb d = record {
 pub led : (t : Turn) (m : GuestState) (rb : RegisterBytes) → Typed t → Unchanged t m.pc
     → ((b : Block) → reply t m.pc ≡ block b → Enterable t b rb)
     → m.pc < 2 ^ 64 → SlotsAre rb m → m.registers 0 ≡ 0 → Led t m rb
-led t m rb ty un en low sl z = go (replied t m.pc (made_halfwords t m.pc un))
+led t m rb ty un en low sl z = go (replied m.pc t.limit t.made t.helper16 t.helper_mem (length t.output) (made_halfwords t m.pc un))
   where
-    go : Replied t m.pc → Led t m rb
+    go : Replied m.pc t.limit t.made t.helper16 t.helper_mem (length t.output) → Led t m rb
     go (out r e f) = skipped t m rb r e (rw un at f) low sl z
     go (came e f) = entered t m rb (entered_done t m rb ty un low sl z e (rw un at f) (en _ e))

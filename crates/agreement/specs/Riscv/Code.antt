@@ -1,5 +1,6 @@
--- The guest's code: what can be fetched, address by address. Document 02, Q-1: it may change from turn to turn.
-use Rattle.std.specs.Prelude.{List, [], ◌∷◌, ℕ, zero, suc, ◌%◌, ◌^◌}
+-- The guest's code: what can be fetched, address by address. Document 02, Q-1: it may change from turn to turn; Q-5: elsewhere than in
+-- some bytes.
+use Rattle.std.specs.Prelude.{◌≡◌, List, [], ◌∷◌, ℕ, zero, suc, ◌+◌, ◌*◌, ◌%◌, ◌^◌, ◌<◌}
 use Rattle.std.proofs.Math.Option.{Option, none, some}
 use Rattle.agreement.specs.Riscv.Fields.{plus}
 
@@ -17,3 +18,8 @@ front (some h) rest = h % 2 ^ 16 ∷ rest
 unfoldable pub run_at : Code → ℕ → ℕ → List ℕ
 run_at code pc zero = []
 run_at code pc (suc n) = front (code pc) (run_at code (plus pc 2) n)
+
+-- two codes have the same in the n bytes from pc on: every second address from there has the same halfword, if both its bytes are among
+-- the n
+abbrev pub SameIn : ℕ → ℕ → Code → Code → Type 0
+SameIn pc n c d = (k : ℕ) → 2 * k + 1 < n → c ((pc + 2 * k) % 2 ^ 64) ≡ d ((pc + 2 * k) % 2 ^ 64)

@@ -6,11 +6,12 @@ use Rattle.agreement.specs.Riscv.Instruction.{Instruction}
 use Rattle.agreement.specs.X86.Encode.{bytes}
 use Rattle.agreement.specs.Translation.Decode32.{word_of}
 use Rattle.agreement.specs.Translation.Kind.{kind, kind_number}
-use Rattle.agreement.specs.Translation.Walk.{Walked, walk, instrs, counted}
+use Rattle.agreement.specs.Translation.Walk.{Walked, walk, instrs, counted, spanned}
 
 pub record Block : Type 0 where
   pub code : List ℕ
   pub count : ℕ
+  pub span : ℕ
 
 -- limit 0; odd start; the first word lacks the halfword of that index; the first word is not taken; output too short
 pub data Refusal : Type 0 where
@@ -26,7 +27,7 @@ pub data Reply : Type 0 where
 
 -- the number of each reply, 0 for a block, and its values
 unfoldable pub numbered : Reply → ℕ × List ℕ
-numbered (block b) = (0, length b.code ∷ b.count ∷ [])
+numbered (block b) = (0, length b.code ∷ b.count ∷ b.span ∷ [])
 numbered (refusal limit_zero) = (1, [])
 numbered (refusal (odd_start start)) = (2, start ∷ [])
 numbered (refusal (missing index)) = (3, index ∷ [])
@@ -58,7 +59,11 @@ abbrev pub walked : ℕ → ℕ → List ℕ → Walked
 walked start limit hs = walk (min limit most_steps) start hs
 
 abbrev pub block_of : ℕ → ℕ → Walked → Block
-block_of helper16 helper_mem p = record { code = bytes (instrs helper16 helper_mem p); count = counted p.end p.added }
+block_of helper16 helper_mem p = record {
+  code = bytes (instrs helper16 helper_mem p);
+  count = counted p.end p.added;
+  span = spanned p.end p.added;
+}
 
 unfoldable pub by_first : First → ℕ → Block → Reply
 by_first (lacks i) room b = refusal (missing i)

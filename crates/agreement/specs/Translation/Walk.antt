@@ -1,5 +1,5 @@
 -- The walk over a run of halfwords, and the block: the Rust's `compile_native_block`.
-use Rattle.std.specs.Prelude.{true, false, List, [], ◌∷◌, ◌++◌, ℕ, zero, suc, eqb}
+use Rattle.std.specs.Prelude.{true, false, List, [], ◌∷◌, ◌++◌, ℕ, zero, suc, ◌+◌, ◌*◌, eqb}
 use Rattle.std.specs.Int.Bits.{bit_and}
 use Rattle.agreement.specs.Common.{Helper, Helper.for_halfword, Helper.for_access}
 use Rattle.agreement.specs.Riscv.Instruction.{Instruction}
@@ -89,3 +89,14 @@ unfoldable pub counted : End → ℕ → ℕ
 counted (goes_on pc) n = n
 counted jumped n = n
 counted (calls h i pc) n = suc n
+
+-- how many bytes of the guest's code the block spans from its start (document 02, Q-5): those of the counted instructions, 4 of a word
+-- and 2 of a halfword. A word that is not taken and a missing halfword are not counted, and not spanned
+abbrev pub size_of : Helper → ℕ
+size_of for_halfword = 2
+size_of for_access = 4
+
+unfoldable pub spanned : End → ℕ → ℕ
+spanned (goes_on pc) n = 4 * n
+spanned jumped n = 4 * n
+spanned (calls h i pc) n = 4 * n + size_of h

@@ -1,5 +1,6 @@
+use Rattle.entry.specs.Index.{freed}
 use Rattle.index.proofs.Clearing.{Cleared}
 use Rattle.index.proofs.empty.Given as goal
 
 abbrev pub invariant-loop-e : goal.invariant-loop-e
-invariant-loop-e l = Cleared l.fn.entries l.entries l.e-index
+invariant-loop-e l = Cleared freed l.fn.entries l.entries l.e-index

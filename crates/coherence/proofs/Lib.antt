@@ -1,0 +1,4 @@
+pub mod Kept
+pub mod KeptInCode
+pub mod Found
+pub mod Example
