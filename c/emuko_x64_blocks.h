@@ -12,16 +12,19 @@
 extern "C" {
 #endif
 
-/* The greatest and the least length of a block, and the greatest number of guest instructions in it. */
+/* The greatest and the least length of a block, the greatest number of guest instructions in it, and the greatest number of bytes of the
+ * guest's code that it spans. */
 #define EMUKO_GREATEST_BLOCK 4099
 #define EMUKO_LEAST_BLOCK 67
 #define EMUKO_MOST_STEPS 64
+#define EMUKO_MOST_SPAN 256
 
 /* A number and its values, 0 where there are fewer. */
 typedef struct {
     uint64_t number;
     uint64_t first;
     uint64_t second;
+    uint64_t third;
 } emuko_reply;
 
 /* What becomes of a word of 32 bits. */
@@ -37,14 +40,18 @@ enum {
 uint32_t emuko_word_kind(uint32_t instr);
 
 /* Translates the guest's code from `start` on, at most `limit` instructions of it, into a block at the front of `out`. Behind the block,
- * and everywhere if refused, `out` is as before. The number, and first and second value:
+ * and everywhere if refused, `out` is as before. The number, and first, second and third value:
  *
- *     0 length count   a block
- *     1                the limit is 0
- *     2 start          the start is odd
- *     3 index          the first instruction lacks its halfword of this index, 0 or 1
- *     4 word           the first word is not taken: neither translated nor handed to a helper
- *     5                the output has fewer than EMUKO_GREATEST_BLOCK bytes, however short this block would be */
+ *     0 length count span   a block
+ *     1                     the limit is 0
+ *     2 start               the start is odd
+ *     3 index               the first instruction lacks its halfword of this index, 0 or 1
+ *     4 word                the first word is not taken: neither translated nor handed to a helper
+ *     5                     the output has fewer than EMUKO_GREATEST_BLOCK bytes, however short this block would be
+ *
+ * The span is how many bytes of the guest's code the block covers, from `start` on: the sizes of the instructions that it counts, added up, 4
+ * for a word, whoever executes it, and 2 for a compressed halfword. A word that is not taken and a halfword that is missing, before which a
+ * block ends, are not counted and not spanned. */
 emuko_reply emuko_translate(uint64_t start, uint32_t limit, const uint16_t *halfwords, size_t halfwords_len, uint64_t helper16,
                             uint64_t helper_mem, uint8_t *out, size_t out_len);
 
@@ -55,18 +62,22 @@ emuko_reply emuko_translate(uint64_t start, uint32_t limit, const uint16_t *half
  *     7                the store has no room for the code */
 emuko_reply emuko_place(const uint8_t *code, size_t code_len, uint8_t *store, size_t store_len, size_t used);
 
-/* Where a block stands in a store, and how many guest instructions it has. An index keeps both as they are given. */
+/* Where a block stands in a store; how many guest instructions it has; its length, in bytes of the store; and its span, in bytes of the
+ * guest's code from the entry's pc on. The last three are the second, first and third value of its translation. An index keeps all of it as
+ * it is given, and makes nothing of it but that emuko_index_drop goes by the span. */
 typedef struct {
     size_t offset;
     uint32_t count;
+    size_t length;
+    uint64_t span;
 } emuko_native_block;
 
 /* An entry of an index of blocks: the key (the guest's address-space register and the start pc), the block, and the mark, which is 0 where
  * the entry is not in use and anything else where it is. An index is an array of entries; one of zeros has none in use.
  *
- * In an array that began with none in use and that only emuko_index_insert and emuko_index_empty wrote, emuko_index_find shows for each
- * key the block last inserted for it since it was last freed, or none. In one that was filled otherwise a key may stand in two entries
- * in use: the first counts. */
+ * In an array that began with none in use and that only emuko_index_insert, emuko_index_drop and emuko_index_empty wrote, emuko_index_find
+ * shows for each key the block last inserted for it since it was last freed, or none. In one that was filled otherwise a key may stand in
+ * two entries in use: the first counts for finding and inserting. */
 typedef struct {
     uint64_t satp;
     uint64_t pc;
@@ -98,6 +109,15 @@ emuko_reply emuko_index_insert(emuko_entry *entries, size_t entries_len, uint64_
  * is not NULL, also where there are no entries. */
 void emuko_index_empty(emuko_entry *entries, size_t entries_len, emuko_code_cache *cache);
 
+/* Drops the blocks that a write of the guest touches: in_use becomes 0 in every entry in use, under every satp, whose block spans one of
+ * the n bytes from `address` on. Nothing else changes, neither in these entries nor in the others. Returns how many they were. Both ranges
+ * of bytes go on from 2^64 - 1 to 0. A write of no bytes touches nothing, also inside a block, and a span of 0, which no translation has,
+ * is touched by nothing.
+ *
+ * The store's bytes and its mark stay, so that a helper may drop the block that has called it; the room of what was dropped is taken until
+ * the store is emptied. It looks at every entry. */
+size_t emuko_index_drop(emuko_entry *entries, size_t entries_len, uint64_t address, uint64_t n);
+
 /* What a block, or a helper, returns. */
 typedef struct {
     uint64_t next_pc;
@@ -107,9 +127,20 @@ typedef struct {
 /* A block, in memory that may be executed. `regs` are the 32 guest registers, the first of them 0; the next three arguments go on to a
  * helper, and the last two are not used. Division by zero and the signed overflow give the RISC-V manual's values and never a fault.
  *
- * It does what the guest's code says as long as the halfwords that it was made from are those that stand in the guest's code at its entry,
- * which nothing here tests. Behind FENCE.I, which ends its block, the guest may count on its stores to code being seen: whoever keeps
- * blocks drops each when a store reaches its halfwords, or drops all of them behind every FENCE.I, and translates anew. */
+ * If the guest's code has not changed in the bytes that a block spans since it was translated, entering it gives the manual's run of the
+ * code as it is now, read for at most the block's count of instructions, the helper's included; so a word before which the block ended,
+ * since it is not taken, may change. The premise is tested by nothing here: a block must not be entered any more once a byte that it spans
+ * has changed.
+ *
+ * From an empty index, through any order of translations inserted, guest writes each followed by its drop, and emptyings, every entry in
+ * use has its span unchanged since its translation. A caller that keeps blocks so calls emuko_index_drop for every write that reaches code,
+ * those of stores, of devices and its own, before the next block is entered, with the address by which the code is fetched: a virtual one
+ * where addresses are translated. Bytes written through another mapping, or by their physical address, are dropped once for each address by
+ * which they can be fetched, whatever the satp; and where another mapping puts other code at addresses, these are dropped as if they had
+ * been written.
+ *
+ * Behind FENCE.I, which ends its block, the guest may count on its stores to code being seen: whoever keeps blocks drops behind every write
+ * those that it touches, or drops all of them behind every FENCE.I, at the latest before the next block is entered, and translates anew. */
 typedef emuko_result (*emuko_block)(uint64_t *regs, void *hart, void *bus_data, void *bus_vtable, void *sbi_data, void *sbi_vtable);
 
 /* A helper executes the guest instruction that stands at pc. Its address, as a number, is helper16 (for a compressed halfword) or

@@ -1,4 +1,5 @@
-/* The header and the archive from C: a run is fetched as far as it is needed, translated, placed and entered, and its block is found again.
+/* The header and the archive from C: a run is fetched as far as it is needed, translated, placed and entered, and its block is found again,
+ * until a write touches its code.
  *
  *     (cd crates/capi && rt lib)
  *     cc -std=c11 -Wall -Wextra -Werror -pedantic c/test.c crates/capi/out/libcapi.a -o crates/capi/out/c-test && crates/capi/out/c-test
@@ -85,11 +86,11 @@ static void with_a_helper(uint8_t *store, size_t size) {
     CHECK(length == 6);
     CHECK(needed(fence_i, sizeof fence_i / sizeof fence_i[0], 64) == 2);
     emuko_reply fenced = emuko_translate(START, 64, fence_i, sizeof fence_i / sizeof fence_i[0], 0, 0, out, sizeof out);
-    CHECK(fenced.number == 0 && fenced.first == 67 && fenced.second == 1);
+    CHECK(fenced.number == 0 && fenced.first == 67 && fenced.second == 1 && fenced.third == 4);
 
     uint64_t helper = address(load);
     emuko_reply reply = emuko_translate(START, 64, code, length, 0, helper, out, sizeof out);
-    CHECK(reply.number == 0 && reply.second == 3);
+    CHECK(reply.number == 0 && reply.second == 3 && reply.third == 12);
     CHECK(emuko_translate(START, 0, code, length, 0, 0, out, sizeof out).number == 1);
     CHECK(emuko_translate(START + 1, 1, code, length, 0, 0, out, sizeof out).first == START + 1);
     CHECK(emuko_translate(START, 1, code, 1, 0, 0, out, sizeof out).first == 1);
@@ -101,14 +102,40 @@ static void with_a_helper(uint8_t *store, size_t size) {
     CHECK(emuko_place(out, reply.first, store, size, size).number == 7);
 
     emuko_entry entries[4] = {0};
-    emuko_native_block block = {placed.first, (uint32_t)reply.second};
+    emuko_native_block block = {placed.first, (uint32_t)reply.second, reply.first, reply.third};
     CHECK(emuko_index_insert(entries, 4, 0, START, block).number == 0);
     emuko_entry found = emuko_index_find(entries, 4, 0, START);
-    CHECK(found.in_use && found.block.count == 3);
+    CHECK(found.in_use && found.block.count == 3 && found.block.span == 12);
+    CHECK(found.block.length == reply.first && memcmp(store + found.block.offset, out, found.block.length) == 0);
     uint64_t regs[32] = {0};
     emuko_result result = entry(store, found.block.offset)(regs, regs, &regs[30], &regs[31], NULL, NULL);
     CHECK(result.next_pc == START + 12 && result.executed == 3);
     CHECK(regs[0] == 0 && regs[1] == 5 && regs[2] == 10 && regs[3] == 1005 && regs[4] == 0);
+
+    /* Four bytes are written behind the block, then two that are the upper half of its last word. */
+    CHECK(emuko_index_drop(entries, 4, START + 12, 4) == 0 && emuko_index_find(entries, 4, 0, START).in_use);
+    CHECK(emuko_index_drop(entries, 4, START + 10, 2) == 1 && !emuko_index_find(entries, 4, 0, START).in_use);
+}
+
+/* The span of the block of so many halfwords. */
+static uint64_t span_of(const uint16_t *halfwords, size_t length) {
+    emuko_reply reply = emuko_translate(START, 64, halfwords, length, 0, 0, out, sizeof out);
+    CHECK(reply.number == 0);
+    return reply.third;
+}
+
+/* A word counts four bytes, a load too, and a halfword two; a branch with funct3 2, which is not taken, none. A reply that is no block has
+ * no third value. */
+static void spans(void) {
+    static const uint16_t halfword[] = {0x0093, 0x0050, 0x0001}, load[] = {0x0093, 0x0050, 0xB083, 0x0000},
+                          branch[] = {0x0093, 0x0050, 0x2063, 0x0000};
+    uint16_t longest[2 * EMUKO_MOST_STEPS + 2];
+    for (size_t k = 0; k < sizeof longest / sizeof longest[0]; k++) longest[k] = k % 2 ? 0x0050 : 0x0093;
+    CHECK(span_of(halfword, 3) == 6 && span_of(halfword + 2, 1) == 2);
+    CHECK(span_of(load, 4) == 8 && span_of(branch, 4) == 4 && span_of(load, 3) == 4);
+    CHECK(span_of(longest, sizeof longest / sizeof longest[0]) == EMUKO_MOST_SPAN);
+    emuko_reply refused = emuko_translate(START, 64, branch + 2, 2, 0, 0, out, sizeof out);
+    CHECK(refused.number == 4 && refused.first == 0x2063 && refused.second == 0 && refused.third == 0);
 }
 
 /* Divisions as usual, by zero, and where the signed quotient overflows. */
@@ -132,30 +159,36 @@ static void dividing(uint8_t *store, size_t size) {
     }
 }
 
-_Static_assert(sizeof(emuko_native_block) == 16 && offsetof(emuko_native_block, count) == 8, "a block of the index");
-_Static_assert(sizeof(emuko_entry) == 40 && offsetof(emuko_entry, pc) == 8 && offsetof(emuko_entry, block) == 16
-               && offsetof(emuko_entry, in_use) == 32, "an entry of the index");
+_Static_assert(sizeof(emuko_reply) == 32, "a reply");
+_Static_assert(sizeof(emuko_native_block) == 32 && offsetof(emuko_native_block, count) == 8 && offsetof(emuko_native_block, length) == 16
+               && offsetof(emuko_native_block, span) == 24, "a block of the index");
+_Static_assert(sizeof(emuko_entry) == 56 && offsetof(emuko_entry, pc) == 8 && offsetof(emuko_entry, block) == 16
+               && offsetof(emuko_entry, in_use) == 48, "an entry of the index");
+
+static int same(emuko_native_block a, emuko_native_block b) {
+    return a.offset == b.offset && a.count == b.count && a.length == b.length && a.span == b.span;
+}
 
 /* Whether find shows this block under the key. */
 static int shows(const emuko_entry *entries, size_t length, uint64_t satp, uint64_t pc, emuko_native_block block) {
     emuko_entry e = emuko_index_find(entries, length, satp, pc);
-    return e.in_use && e.satp == satp && e.pc == pc && e.block.offset == block.offset && e.block.count == block.count;
+    return e.in_use && e.satp == satp && e.pc == pc && same(e.block, block);
 }
 
 /* Whether find shows nothing: an entry of zeros. */
 static int none(const emuko_entry *entries, size_t length, uint64_t satp, uint64_t pc) {
     emuko_entry e = emuko_index_find(entries, length, satp, pc);
-    return !e.in_use && !e.satp && !e.pc && !e.block.offset && !e.block.count;
+    return !e.in_use && !e.satp && !e.pc && same(e.block, (emuko_native_block){0});
 }
 
 /* Keys inserted, found, replaced and refused; then the index and the store's mark are emptied. */
 static void indexing(void) {
     const uint64_t satp = (uint64_t)8 << 60 | 0x80001;
-    const emuko_native_block a = {8, 3}, b = {(size_t)1 << 40, 64}, c = {132, 1};
+    const emuko_native_block a = {8, 3, 124, 12}, b = {(size_t)1 << 40, 64, EMUKO_GREATEST_BLOCK, EMUKO_MOST_SPAN}, c = {132, 1, 88, 2};
     emuko_entry entries[2] = {0};
     CHECK(none(entries, 2, satp, START));
     emuko_reply reply = emuko_index_insert(entries, 2, satp, START, a);
-    CHECK(reply.number == 0 && reply.first == 0 && reply.second == 0);
+    CHECK(reply.number == 0 && reply.first == 0 && reply.second == 0 && reply.third == 0);
     reply = emuko_index_insert(entries, 2, satp, START + 4, b);
     CHECK(reply.number == 0 && reply.first == 1 && reply.second == 0 && entries[1].in_use == 1);
     CHECK(shows(entries, 2, satp, START, a) && shows(entries, 2, satp, START + 4, b));
@@ -172,7 +205,7 @@ static void indexing(void) {
     emuko_index_empty(entries, 2, &cache);
     CHECK(cache.used == 0 && !entries[0].in_use && !entries[1].in_use);
     CHECK(none(entries, 2, satp, START) && none(entries, 2, satp, START + 4));
-    CHECK(entries[1].satp == satp && entries[1].pc == START + 4 && entries[1].block.offset == 132 && entries[1].block.count == 1);
+    CHECK(entries[1].satp == satp && entries[1].pc == START + 4 && same(entries[1].block, c));
     /* A key in two entries in use, as in an array filled elsewhere: the first counts, and the second shows once the first is freed. */
     emuko_entry twice[3] = {{satp, START, a, 0}, {satp, START, b, 1}, {satp, START, c, 1}};
     CHECK(shows(twice, 3, satp, START, b));
@@ -185,14 +218,14 @@ static void indexing(void) {
 
 /* Marks as C may write them: one byte of them 255, the first or the last, and all four. */
 static void marks(void) {
-    const emuko_native_block a = {8, 3}, b = {64, 5};
+    const emuko_native_block a = {8, 3, 124, 12}, b = {64, 5, 200, 20};
     for (size_t k = 0; k < 3; k++) {
         emuko_entry entries[3] = {0};
         entries[2].pc = START;
         uint8_t *mark = (uint8_t *)&entries[2].in_use;
         memset(k == 1 ? mark + 3 : mark, 255, k == 2 ? 4 : 1);
         const uint32_t written = entries[2].in_use;
-        CHECK(shows(entries, 3, 0, START, (emuko_native_block){0, 0}));
+        CHECK(shows(entries, 3, 0, START, (emuko_native_block){0}));
         /* The key is replaced where it stands, although others are free, and the mark stays. */
         CHECK(emuko_index_insert(entries, 3, 0, START, a).first == 2);
         CHECK(entries[2].in_use == written && shows(entries, 3, 0, START, a));
@@ -205,15 +238,55 @@ static void marks(void) {
     }
 }
 
+/* Whether a write drops the one entry that there is, whose block spans so many bytes. */
+static int drops(uint64_t pc, uint64_t span, uint64_t address, uint64_t n) {
+    emuko_entry one = {8, pc, {16, 1, 88, span}, 7};
+    size_t number = emuko_index_drop(&one, 1, address, n);
+    CHECK(number <= 1 && one.in_use == (number ? 0 : 7));
+    CHECK(one.satp == 8 && one.pc == pc && same(one.block, (emuko_native_block){16, 1, 88, span}));
+    return (int)number;
+}
+
+/* What a write touches: byte for byte, across the end of addresses, nothing where there are no bytes; then every entry in use that it
+ * touches, under any satp, twice, with any mark. */
+static void dropping(void) {
+    CHECK(drops(START, 4, START + 3, 1) && !drops(START, 4, START + 4, 1));
+    CHECK(drops(START, 4, START - 1, 2) && !drops(START, 4, START - 1, 1));
+    const uint64_t end = UINT64_MAX - 3, sixteen = UINT64_MAX - 15;
+    CHECK(drops(end, 8, 3, 1) && !drops(end, 8, 4, 1));
+    CHECK(drops(0, 4, sixteen, 17) && !drops(0, 4, sixteen, 16));
+    CHECK(!drops(START - 1, 1, START, UINT64_MAX) && drops(START - 2, 2, START, UINT64_MAX));
+    CHECK(!drops(START, 8, START + 4, 0) && !drops(START, 0, START, 1) && !drops(START, 0, START - 1, 8));
+
+    const emuko_native_block two = {0, 2, 95, 8};
+    const emuko_entry filled[6] = {
+        {0, START, two, 1}, {1, START, two, 0x100}, {1, START, two, UINT32_MAX},
+        {0, START + 8, two, 1}, {0, START, two, 0}, {2, START - 7, two, 1},
+    };
+    emuko_entry entries[6];
+    memcpy(entries, filled, sizeof entries);
+    CHECK(emuko_index_drop(entries, 6, START, 1) == 4);
+    for (size_t k = 0; k < 6; k++) {
+        CHECK(entries[k].satp == filled[k].satp && entries[k].pc == filled[k].pc && same(entries[k].block, two));
+        CHECK(entries[k].in_use == (k == 3));
+    }
+    CHECK(memcmp(&entries[3], &filled[3], 2 * sizeof filled[3]) == 0);
+    CHECK(emuko_index_drop(entries, 6, START, 1) == 0 && emuko_index_drop(NULL, 0, START, 1) == 0);
+    /* The first that was dropped is the first that a new key takes. */
+    CHECK(emuko_index_insert(entries, 6, 3, START, two).first == 0 && entries[0].in_use == 1);
+}
+
 int main(void) {
     kinds();
+    spans();
     indexing();
     marks();
+    dropping();
     size_t size = 8192;
     uint8_t *store = mmap(NULL, size, PROT_READ | PROT_WRITE | PROT_EXEC, MAP_PRIVATE | MAP_ANONYMOUS, -1, 0);
     CHECK(store != MAP_FAILED);
     with_a_helper(store, size);
     dividing(store, size);
-    puts("c/test.c: blocks were translated, placed and entered, and found again");
+    puts("c/test.c: blocks were translated, placed and entered, found again and dropped");
     return 0;
 }

@@ -1,5 +1,5 @@
 #!/usr/bin/env python3
-"""The index of blocks (Q-4), held against the request's text. Not part of the gate; its lines in crates/replay are.
+"""The index of blocks (Q-4, Q-5), held against the request's text. Not part of the gate; its lines in crates/replay are.
 
     checks/index.py                 the table below, the lines of crates/replay, and 200,000 random lines asked of the program replay
     checks/index.py --lines N       so many random lines
@@ -7,8 +7,8 @@
     checks/index.py --write         writes the I lines of crates/replay/stdin and stdout anew
 
 The original Rust keeps a map, which has no entries and is never full, so the judges are a table of replies typed by hand from the request's text; `Entries`, which does
-what the text says to a list; and, where a slice began with none in use and was written by inserts and empties alone, a dictionary, which
-has neither slots nor marks. Nothing of this repository's code is read. `rt run < stdin` in crates/replay leaves the program at out/replay.
+what the text says to a list; and, where a slice began with none in use and was written by inserts, drops and empties alone, a dictionary,
+which has neither slots nor marks. Nothing of this repository's code is read. `rt run < stdin` in crates/replay leaves the program at out/replay.
 """
 import os
 import random
@@ -21,73 +21,85 @@ REPLAY = os.path.join(ROOT, "crates", "replay")
 PROGRAM = os.path.join(REPLAY, "out", "replay")
 BAD = "bad request"
 MOST = 64
+# There are so many addresses. Ranges of so few bytes are compared address by address too.
+ADDRESSES, FEW = 1 << 64, 300
 
 # Lines and replies, from the request's text.
 TABLE = """\
 I show >
 I find 0 0 > none
-I insert 0 0 0 0 > 8
+I insert 0 0 0 0 0 0 > 8
+I drop 0 18446744073709551615 > dropped 0
 I empty > mark 0
 I new 0 > ok
 I find 0 0 > none
-I insert 1 2 3 4 > 8
+I insert 1 2 3 4 5 6 > 8
+I drop 0 18446744073709551615 > dropped 0
 I show >
 I new 3 > ok
-I show > 0,0,0,0,0 0,0,0,0,0 0,0,0,0,0
+I show > 0,0,0,0,0,0,0 0,0,0,0,0,0,0 0,0,0,0,0,0,0
 I find 0 0 > none
-I insert 8000000000080000 80000000 64 3 > at 0
-I find 8000000000080000 80000000 > found 1,8000000000080000,80000000,64,3
+I drop 0 18446744073709551615 > dropped 0
+I insert 8000000000080000 80000000 64 3 123 12 > at 0
+I find 8000000000080000 80000000 > found 1,8000000000080000,80000000,64,3,123,12
 I find 8000000000080001 80000000 > none
 I find 8000000000080000 80000004 > none
 I find 80000000 8000000000080000 > none
-I insert 8000000000080000 80000004 132 1 > at 1
-I insert 8000000000080001 80000000 200 64 > at 2
-I show > 1,8000000000080000,80000000,64,3 1,8000000000080000,80000004,132,1 1,8000000000080001,80000000,200,64
-I insert 8000000000080001 80000004 268 1 > 8
-I show > 1,8000000000080000,80000000,64,3 1,8000000000080000,80000004,132,1 1,8000000000080001,80000000,200,64
-I insert 8000000000080000 80000004 400 2 > at 1
-I find 8000000000080000 80000004 > found 1,8000000000080000,80000004,400,2
+I insert 8000000000080000 80000004 188 1 81 4 > at 1
+I insert 8000000000080001 80000000 272 64 1404 256 > at 2
+I show > 1,8000000000080000,80000000,64,3,123,12 1,8000000000080000,80000004,188,1,81,4 1,8000000000080001,80000000,272,64,1404,256
+I insert 8000000000080001 80000004 1676 1 81 4 > 8
+I show > 1,8000000000080000,80000000,64,3,123,12 1,8000000000080000,80000004,188,1,81,4 1,8000000000080001,80000000,272,64,1404,256
+I insert 8000000000080000 80000004 400 2 102 8 > at 1
+I find 8000000000080000 80000004 > found 1,8000000000080000,80000004,400,2,102,8
 I empty > mark 0
-I show > 0,8000000000080000,80000000,64,3 0,8000000000080000,80000004,400,2 0,8000000000080001,80000000,200,64
+I show > 0,8000000000080000,80000000,64,3,123,12 0,8000000000080000,80000004,400,2,102,8 0,8000000000080001,80000000,272,64,1404,256
 I find 8000000000080000 80000000 > none
-I insert 8000000000080001 80000000 8 9 > at 0
-I show > 1,8000000000080001,80000000,8,9 0,8000000000080000,80000004,400,2 0,8000000000080001,80000000,200,64
+I insert 8000000000080001 80000000 8 9 10 11 > at 0
+I show > 1,8000000000080001,80000000,8,9,10,11 0,8000000000080000,80000004,400,2,102,8 0,8000000000080001,80000000,272,64,1404,256
 I new 4 > ok
-I set 1 1 a b 1 2 > ok
-I set 3 1 a b 3 4 > ok
-I find a b > found 1,a,b,1,2
-I insert a b 5 6 > at 1
-I show > 0,0,0,0,0 1,a,b,5,6 0,0,0,0,0 1,a,b,3,4
-I set 1 0 a b 5 6 > ok
-I find a b > found 1,a,b,3,4
-I insert a b 7 8 > at 3
-I insert a c 9 10 > at 0
-I insert b b 11 12 > at 1
-I insert b c 13 14 > at 2
-I insert c c 15 16 > 8
-I insert a b 17 18 > at 3
-I show > 1,a,c,9,10 1,b,b,11,12 1,b,c,13,14 1,a,b,17,18
+I set 1 1 a b 1 2 21 22 > ok
+I set 3 1 a b 3 4 23 24 > ok
+I find a b > found 1,a,b,1,2,21,22
+I insert a b 5 6 25 26 > at 1
+I show > 0,0,0,0,0,0,0 1,a,b,5,6,25,26 0,0,0,0,0,0,0 1,a,b,3,4,23,24
+I set 1 0 a b 5 6 25 26 > ok
+I find a b > found 1,a,b,3,4,23,24
+I insert a b 7 8 27 28 > at 3
+I insert a c 9 10 29 30 > at 0
+I insert b b 11 12 31 32 > at 1
+I insert b c 13 14 33 34 > at 2
+I insert c c 15 16 35 36 > 8
+I insert a b 17 18 37 38 > at 3
+I show > 1,a,c,9,10,29,30 1,b,b,11,12,31,32 1,b,c,13,14,33,34 1,a,b,17,18,37,38
 I new 2 > ok
-I set 0 0 7 7 7 7 > ok
+I set 0 0 7 7 7 7 7 7 > ok
 I find 7 7 > none
-I insert 7 7 8 8 > at 0
+I insert 7 7 8 8 8 8 > at 0
 I new 2 > ok
-I set 0 7 1 2 3 4 > ok
-I set 1 4294967295 5 6 7 8 > ok
-I insert 1 2 30 40 > at 0
-I insert 5 6 70 80 > at 1
-I insert 1 6 0 0 > 8
-I show > 7,1,2,30,40 4294967295,5,6,70,80
+I set 0 7 1 2 3 4 5 6 > ok
+I set 1 4294967295 5 6 7 8 9 10 > ok
+I insert 1 2 30 40 50 60 > at 0
+I insert 5 6 70 80 90 100 > at 1
+I insert 1 6 0 0 0 0 > 8
+I show > 7,1,2,30,40,50,60 4294967295,5,6,70,80,90,100
 I empty > mark 0
-I show > 0,1,2,30,40 0,5,6,70,80
-I insert ffffffffffffffff ffffffffffffffff 18446744073709551615 4294967295 > at 0
-I find ffffffffffffffff ffffffffffffffff > found 1,ffffffffffffffff,ffffffffffffffff,18446744073709551615,4294967295
-I find ffffffffffffffff FFFFFFFFFFFFFFFF > found 1,ffffffffffffffff,ffffffffffffffff,18446744073709551615,4294967295
-I set 2 1 0 0 0 0 > bad request
-I set 1 4294967296 0 0 0 0 > bad request
-I insert 0 0 0 4294967296 > bad request
-I insert 10000000000000000 0 0 0 > bad request
-I insert 0 0 18446744073709551616 0 > bad request
+I show > 0,1,2,30,40,50,60 0,5,6,70,80,90,100
+I insert ffffffffffffffff ffffffffffffffff 18446744073709551615 4294967295 18446744073709551614 18446744073709551613 > at 0
+I find ffffffffffffffff ffffffffffffffff > found 1,ffffffffffffffff,ffffffffffffffff,18446744073709551615,4294967295,18446744073709551614,18446744073709551613
+I find ffffffffffffffff FFFFFFFFFFFFFFFF > found 1,ffffffffffffffff,ffffffffffffffff,18446744073709551615,4294967295,18446744073709551614,18446744073709551613
+I set 2 1 0 0 0 0 0 0 > bad request
+I set 1 4294967296 0 0 0 0 0 0 > bad request
+I insert 0 0 0 4294967296 0 0 > bad request
+I insert 10000000000000000 0 0 0 0 0 > bad request
+I insert 0 0 18446744073709551616 0 0 0 > bad request
+I insert 0 0 0 0 18446744073709551616 0 > bad request
+I insert 0 0 0 0 0 18446744073709551616 > bad request
+I insert 0 0 0 0 > bad request
+I insert 0 0 0 0 0 > bad request
+I insert 0 0 0 0 0 0 0 > bad request
+I insert 0 0 0 0 a 0 > bad request
+I insert 0 0 0 0 0 a > bad request
 I new 65 > bad request
 I new > bad request
 I news 1 > bad request
@@ -95,29 +107,145 @@ I new 1 1 > bad request
 I find 0 > bad request
 I find 0  0 > bad request
 I find 0 g > bad request
+I drop > bad request
+I drop 0 > bad request
+I drop 0 0 0 > bad request
+I drop 0 a > bad request
+I drop g 1 > bad request
+I drop 0  1 > bad request
+I drop 0 -1 > bad request
+I drop 0 18446744073709551616 > bad request
+I drop 10000000000000000 1 > bad request
+I drops 0 1 > bad request
 I empty 0 > bad request
 I shows > bad request
-I insert 0 0 a 0 > bad request
+I insert 0 0 a 0 0 0 > bad request
 I set 0 1 0 0 0 > bad request
+I set 0 1 0 0 0 0 0 > bad request
 i show > bad request
-I show > 1,ffffffffffffffff,ffffffffffffffff,18446744073709551615,4294967295 0,5,6,70,80
+i drop 0 18446744073709551615 > bad request
+I show > 1,ffffffffffffffff,ffffffffffffffff,18446744073709551615,4294967295,18446744073709551614,18446744073709551613 0,5,6,70,80,90,100
+I new 2 > ok
+I insert 1 80000000 64 2 102 8 > at 0
+I drop 7fffffff 1 > dropped 0
+I drop 80000008 1 > dropped 0
+I drop 80000008 18446744073709551608 > dropped 0
+I drop 7ffffff0 16 > dropped 0
+I drop 80000004 0 > dropped 0
+I drop 80000000 0 > dropped 0
+I find 1 80000000 > found 1,1,80000000,64,2,102,8
+I drop 7ffffff0 17 > dropped 1
+I drop 7ffffff0 17 > dropped 0
+I find 1 80000000 > none
+I show > 0,1,80000000,64,2,102,8 0,0,0,0,0,0,0
+I insert 1 80000000 64 2 102 8 > at 0
+I drop 80000007 1 > dropped 1
+I insert 1 80000000 64 2 102 8 > at 0
+I drop 80000003 2 > dropped 1
+I insert 1 80000000 64 2 102 8 > at 0
+I drop 70000000 4294967296 > dropped 1
+I insert 1 80000000 64 2 102 8 > at 0
+I drop 80000008 18446744073709551609 > dropped 1
+I new 2 > ok
+I insert 1 fffffffffffffffc 64 2 102 8 > at 0
+I drop 4 1 > dropped 0
+I drop fffffffffffffffb 1 > dropped 0
+I drop 4 18446744073709551608 > dropped 0
+I drop 3 1 > dropped 1
+I insert 1 fffffffffffffffc 64 2 102 8 > at 0
+I drop 4 18446744073709551609 > dropped 1
+I insert 1 fffffffffffffffc 64 2 102 8 > at 0
+I drop FFFFFFFFFFFFFFFB 2 > dropped 1
+I insert 1 fffffffffffffffc 64 2 102 8 > at 0
+I drop ffffffffffffffff 1 > dropped 1
+I insert 1 fffffffffffffffc 64 2 102 8 > at 0
+I drop 0 1 > dropped 1
+I insert 1 0 64 1 81 4 > at 0
+I drop fffffffffffffff0 16 > dropped 0
+I drop 4 18446744073709551612 > dropped 0
+I drop fffffffffffffff0 17 > dropped 1
+I insert 1 0 64 1 81 4 > at 0
+I drop 4 18446744073709551613 > dropped 1
+I new 5 > ok
+I insert 1 80000000 1 1 1 1 > at 0
+I insert 1 7fffffff 2 1 1 1 > at 1
+I insert 1 80000001 3 1 1 1 > at 2
+I insert 2 80000000 4 1 1 2 > at 3
+I insert 2 7fffffff 5 1 1 2 > at 4
+I drop 80000001 18446744073709551615 > dropped 4
+I show > 1,1,80000000,1,1,1,1 0,1,7fffffff,2,1,1,1 0,1,80000001,3,1,1,1 0,2,80000000,4,1,1,2 0,2,7fffffff,5,1,1,2
+I drop 80000000 18446744073709551615 > dropped 1
+I new 2 > ok
+I insert 1 10 64 1 81 18446744073709551615 > at 0
+I drop f 1 > dropped 0
+I drop f 0 > dropped 0
+I drop e 1 > dropped 1
+I insert 1 10 64 1 81 18446744073709551615 > at 0
+I drop f 2 > dropped 1
+I insert 1 10 64 1 81 18446744073709551615 > at 0
+I drop 10 18446744073709551615 > dropped 1
+I insert 1 10 64 1 81 18446744073709551615 > at 0
+I drop 11 18446744073709551615 > dropped 1
+I insert 1 10 64 1 81 1 > at 0
+I drop a 1 > dropped 0
+I drop 10 1 > dropped 1
+I insert 1 a 64 1 81 1 > at 0
+I drop 0 10 > dropped 0
+I drop 0 11 > dropped 1
+I new 2 > ok
+I insert 1 80000000 64 1 81 0 > at 0
+I drop 80000000 1 > dropped 0
+I drop 0 18446744073709551615 > dropped 0
+I drop 7fffffff 18446744073709551615 > dropped 0
+I drop 80000000 0 > dropped 0
+I insert 1 80000000 64 1 81 4 > at 0
+I find 1 80000000 > found 1,1,80000000,64,1,81,4
+I drop 80000000 1 > dropped 1
+I insert 1 80000000 64 2 102 8 > at 0
+I insert 1 80000000 200 1 81 4 > at 0
+I drop 80000004 4 > dropped 0
+I find 1 80000000 > found 1,1,80000000,200,1,81,4
+I insert 1 80000000 64 2 102 8 > at 0
+I drop 80000004 4 > dropped 1
+I new 8 > ok
+I set 0 7 a 80000000 1 2 3 8 > ok
+I set 1 1 b 80000004 4 5 6 8 > ok
+I set 2 0 a 80000000 7 8 9 8 > ok
+I set 3 4294967295 a 80000000 10 11 12 8 > ok
+I set 4 1 ffffffffffffffff 7ffffffc 13 14 15 8 > ok
+I set 5 1 a 7ffffffc 16 17 18 4 > ok
+I set 6 2 a 80000000 19 20 21 0 > ok
+I set 7 256 0 7fffff00 22 23 24 18446744073709551615 > ok
+I drop 80000002 2 > dropped 4
+I show > 0,a,80000000,1,2,3,8 1,b,80000004,4,5,6,8 0,a,80000000,7,8,9,8 0,a,80000000,10,11,12,8 0,ffffffffffffffff,7ffffffc,13,14,15,8 1,a,7ffffffc,16,17,18,4 2,a,80000000,19,20,21,0 0,0,7fffff00,22,23,24,18446744073709551615
+I find a 80000000 > found 2,a,80000000,19,20,21,0
+I drop 80000002 2 > dropped 0
+I insert c 80000000 25 26 27 28 > at 0
+I insert a 80000000 29 30 31 32 > at 6
+I insert d 80000000 33 34 35 36 > at 2
+I drop 8000001b 1 > dropped 3
+I drop 0 18446744073709551615 > dropped 2
+I show > 0,c,80000000,25,26,27,28 0,b,80000004,4,5,6,8 0,d,80000000,33,34,35,36 0,a,80000000,10,11,12,8 0,ffffffffffffffff,7ffffffc,13,14,15,8 0,a,7ffffffc,16,17,18,4 0,a,80000000,29,30,31,32 0,0,7fffff00,22,23,24,18446744073709551615
 """
 
 HEX, NUMBER = "([0-9a-fA-F]+)", "([0-9]+)"
 FORMS = {
     "new": rf"I new {NUMBER}",
-    "set": rf"I set {NUMBER} {NUMBER} {HEX} {HEX} {NUMBER} {NUMBER}",
-    "insert": rf"I insert {HEX} {HEX} {NUMBER} {NUMBER}",
+    "set": rf"I set {NUMBER} {NUMBER} {HEX} {HEX} {NUMBER} {NUMBER} {NUMBER} {NUMBER}",
+    "insert": rf"I insert {HEX} {HEX} {NUMBER} {NUMBER} {NUMBER} {NUMBER}",
     "find": rf"I find {HEX} {HEX}",
+    "drop": rf"I drop {HEX} {NUMBER}",
     "empty": "I empty",
     "show": "I show",
 }
-# The fields of each form: how many bits, and whether hexadecimal.
+# The fields of each form: how many bits, and whether hexadecimal. A block is satp, pc, offset, count, length, span.
+BLOCK = [(64, True), (64, True), (64, False), (32, False), (64, False), (64, False)]
 WIDTHS = {
     "new": [(64, False)],
-    "set": [(64, False), (32, False), (64, True), (64, True), (64, False), (32, False)],
-    "insert": [(64, True), (64, True), (64, False), (32, False)],
+    "set": [(64, False), (32, False), *BLOCK],
+    "insert": BLOCK,
     "find": [(64, True), (64, True)],
+    "drop": [(64, True), (64, False)],
     "empty": [],
     "show": [],
 }
@@ -134,12 +262,29 @@ def parsed(line):
 
 
 def shown(entry):
-    use, satp, pc, offset, count = entry
-    return f"{use},{satp:x},{pc:x},{offset},{count}"
+    use, satp, pc, *block = entry
+    return ",".join([f"{use},{satp:x},{pc:x}", *map(str, block)])
+
+
+def pieces(first, n):
+    """The n addresses from the first on, of which one after the last address is 0: as ranges of integers, two at most, ends not included."""
+    end = first + n
+    ranges = [(first, min(end, ADDRESSES)), (0, end - ADDRESSES)]
+    return [(low, high) for low, high in ranges if low < high]
+
+
+def have_common(one, other):
+    """Whether two ranges, each a first address and how many, have a common address."""
+    common = any(max(a, c) < min(b, d) for a, b in pieces(*one) for c, d in pieces(*other))
+    if max(one[1], other[1]) <= FEW:
+        first, second = ({(start + k) % ADDRESSES for k in range(n)} for start, n in (one, other))
+        if common == first.isdisjoint(second):
+            sys.exit(f"ranges and sets of addresses differ: {one}, {other}")
+    return common
 
 
 class Entries:
-    """A list of [use, satp, pc, offset, count], and the request's text."""
+    """A list of [use, satp, pc, offset, count, length, span], and the request's text."""
 
     def __init__(self):
         self.entries = []
@@ -150,7 +295,7 @@ class Entries:
     def new(self, n):
         if n > MOST:
             return BAD
-        self.entries = [[0] * 5 for _ in range(n)]
+        self.entries = [[0] * 7 for _ in range(n)]
         return "ok"
 
     def set(self, slot, *entry):
@@ -159,18 +304,24 @@ class Entries:
         self.entries[slot] = list(entry)
         return "ok"
 
-    def insert(self, satp, pc, offset, count):
+    def insert(self, satp, pc, *block):
         free = [k for k, e in enumerate(self.entries) if e[0] == 0]
         slots = self.holding(satp, pc) or free
         if not slots:
             return "8"
         mark = self.entries[slots[0]][0] or 1
-        self.entries[slots[0]] = [mark, satp, pc, offset, count]
+        self.entries[slots[0]] = [mark, satp, pc, *block]
         return f"at {slots[0]}"
 
     def find(self, satp, pc):
         slots = self.holding(satp, pc)
         return "found " + shown(self.entries[slots[0]]) if slots else "none"
+
+    def drop(self, address, n):
+        touched = [e for e in self.entries if e[0] != 0 and have_common((e[2], e[6]), (address, n))]
+        for entry in touched:
+            entry[0] = 0
+        return f"dropped {len(touched)}"
 
     def empty(self):
         for entry in self.entries:
@@ -205,6 +356,11 @@ class History:
         elif word == "find":
             key = tuple(numbers)
             return "found " + shown([1, *key, *self.known[key]]) if key in self.known else "none"
+        elif word == "drop":
+            left = {key: block for key, block in self.known.items() if not have_common((key[1], block[-1]), numbers)}
+            dropped = len(self.known) - len(left)
+            self.known = left
+            return f"dropped {dropped}"
         return None
 
 
@@ -221,13 +377,14 @@ class Judges:
         other = self.history.reply(word, numbers)
         if other is not None:
             self.by_both += 1
-            if not reply.startswith(other) or word == "find" and reply != other:
+            if not reply.startswith(other) or word != "insert" and reply != other:
                 sys.exit(f"the judges differ: {line}: {reply}, {other}")
         return reply
 
 
 class Lines:
-    """Random lines: few keys, so that they meet again; slices that are filled by hand now and then; lines that are no request."""
+    """Random lines: few keys, so that they meet again, and writes about them; slices that are filled by hand now and then; lines that
+    are no request."""
 
     def __init__(self, seed):
         self.random = random.Random(seed)
@@ -237,13 +394,32 @@ class Lines:
     def renew(self):
         r = self.random
         self.halves = [0, 1, (1 << 64) - 1, 1 << 63] + [r.getrandbits(r.choice([3, 16, 40, 64])) for _ in range(r.randint(1, 8))]
+        self.last = 0, 0
 
     def key(self):
-        return f"{self.random.choice(self.halves):x} {self.random.choice(self.halves):x}"
+        """Now and then the key that the line before it had."""
+        r = self.random
+        if r.random() < 0.7:
+            self.last = r.choice(self.halves), r.choice(self.halves)
+        satp, pc = self.last
+        return f"{satp:x} {pc:x}"
 
     def block(self):
         r = self.random
-        return f"{r.choice([r.getrandbits(64), r.randrange(4096)])} {r.choice([r.getrandbits(32), r.randrange(65)])}"
+        offset, length = (r.choice([r.getrandbits(64), r.randrange(4096)]) for _ in range(2))
+        return f"{offset} {r.choice([r.getrandbits(32), r.randrange(65)])} {length} {self.bytes()}"
+
+    def bytes(self):
+        """How many a block spans or a write has: most of them few."""
+        r = self.random
+        many = r.choice([(1 << 64) - 1, (1 << 64) - r.randrange(1, 20), r.getrandbits(64)])
+        return r.choice([0, 1, r.randrange(1, 20), r.randrange(1, 20), 2 * r.randrange(129), r.randrange(300), r.randrange(300), many])
+
+    def drop(self):
+        """A write about the last key's pc or one of the halves, and so about 2^64 too."""
+        r = self.random
+        near, reach = r.choice([self.last[1], r.choice(self.halves)]), r.choice([3, 20, 300])
+        return f"I drop {(near + r.randint(-reach, reach)) % (1 << 64):x} {self.bytes()}"
 
     def new(self):
         self.room = self.random.choice([0, 1, 2, 3, 4, 5, 8, 13, 64])
@@ -256,13 +432,13 @@ class Lines:
         return f"I set {self.random.randrange(self.room + 1)} {use} {self.key()} {self.block()}"
 
     def broken(self):
-        line = self.line(0.4)
+        line = self.line(self.random.choice([0, 0.7]))
         at = self.random.randrange(2, len(line) + 1)
         return line[:at] + self.random.choice([" ", "x", "-", "0" * 20, ""]) + line[at + self.random.randrange(2):]
 
     def line(self, p):
-        for share, make in [(0.42, lambda: f"I insert {self.key()} {self.block()}"), (0.74, lambda: f"I find {self.key()}"),
-                            (0.84, lambda: "I show"), (0.88, lambda: "I empty"), (0.91, self.new), (0.97, self.set)]:
+        for share, make in [(0.4, lambda: f"I insert {self.key()} {self.block()}"), (0.66, lambda: f"I find {self.key()}"),
+                            (0.78, self.drop), (0.86, lambda: "I show"), (0.88, lambda: "I empty"), (0.91, self.new), (0.97, self.set)]:
             if p < share:
                 return make()
         return self.broken()

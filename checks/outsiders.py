@@ -597,7 +597,8 @@ class Replay:
         self.process.stdin.write(f"T {start:x} 64 0 0 4099 {halfwords}\n")
         self.process.stdin.flush()
         reply = self.process.stdout.readline().split()
-        demand(reply[0] == "block" and len(reply) == 4, "reply", *reply)
+        demand(reply[0] == "block" and len(reply) == 5, "reply", *reply)
+        demand(int(reply[4]) == 4 * int(reply[2]), "span", *reply)
         return bytes.fromhex(reply[3])
 
     def close(self):

@@ -3,7 +3,7 @@
 
     checks/replies.py ORACLE              compares crates/replay/stdout with what the original says
     checks/replies.py ORACLE --write      writes it
-    checks/replies.py ORACLE --changes    prints docs/changes/Q-2-replies.txt: the replies that request Q-2 changed
+    checks/replies.py ORACLE --changes    prints docs/changes/Q-5-replies.txt: the replies that request Q-5 changed
 
 ORACLE is a program over the original Rust that answers the request lines of crates/replay/stdin on its standard input, a line each; it
 is not in this repository. (`cargo test` in rust/, module `linked`, compares the same replies with rust/original, which is.) Needs GNU as
@@ -18,9 +18,12 @@ eleven words, a straight word with the same two loads and the same store. Its re
 store; there it has the three bytes of ADD R10, R11, which are replaced by the word's body: muldiv.py's text, made bytes by GNU as. Where in
 a block they stand, the original says too: a word begins where the block of the words before it, asked for by itself, has its end.
 
-Number 5, which the original has not, goes by 4,099 bytes (Q-2; 2,243 before).
+How many bytes a block spans (Q-5) the original does not say. Its reply says how many instructions the block has, and the run's halfwords how
+long each is, by the manual's "Base Instruction-Length Encoding".
 
-Lines to the index of blocks (Q-4), in whose place the original has a map, are answered by index.py.
+Number 5, which the original has not, goes by 4,099 bytes.
+
+Lines to the index of blocks (Q-4, Q-5), in whose place the original has a map, are answered by index.py.
 
 Lines that are no request are not asked: replay answers them by itself.
 """
@@ -42,9 +45,6 @@ PLACING = re.compile(r"P (\d+) (\d+) (\d+)")
 DECODING = re.compile(r"D [0-9a-fA-F]{1,8}")
 # The greatest line, the greatest length of lent bytes, and the longest run that replay takes.
 LINE, LENT, RUN = 8192, 65536, 2048
-# So many lines stood in stdin before Q-2. Those outputs of theirs that were about as long as the greatest block, 2,243 bytes, were made
-# longer by as much as the greatest block has become.
-BEFORE, MOVED, MOVED_LENGTHS = 3504, 1856, range(2200, 4097)
 # The greatest length of a block. Bytes of a block's opening, of its end (RAX, RDX, closing), of two loads; ADD R10, R11.
 GREATEST = 4099
 OPENING, END, LOADS = 32, 35, 14
@@ -93,28 +93,33 @@ def with_stand_ins(halfwords):
     return run, found
 
 
-class Translation:
-    """A T line: its fields, its run cut behind a FENCE.I, and that with stand-ins; and the output's length that it had before Q-2."""
+def spanned(count, halfwords):
+    """How many bytes the run's first instructions have: an instruction is a word where the low two bits of its first halfword are 11."""
+    at = 0
+    for _ in range(count):
+        at += 2 if halfwords[at] & 3 == 3 else 1
+    return 2 * at
 
-    def __init__(self, number, line):
+
+class Translation:
+    """A T line: its fields, its run, and that cut behind a FENCE.I and with stand-ins."""
+
+    def __init__(self, line):
         _, self.start, self.limit, self.helper16, self.helper_mem, output, run = line.split(" ")
         self.output = int(output)
-        moved = number < BEFORE and self.output - MOVED in MOVED_LENGTHS
-        self.output_before = self.output - MOVED if moved else self.output
-        whole = [] if run == "-" else [int(field, 16) for field in run.split(",")]
-        self.cut = cut(whole)
-        self.run, self.rest = with_stand_ins(self.cut)
+        self.whole = [] if run == "-" else [int(field, 16) for field in run.split(",")]
+        self.run, self.rest = with_stand_ins(cut(self.whole))
 
-    def request(self, run, limit=None, output=None):
+    def request(self, run, limit=None):
+        """By an output that is long enough for the original's blocks; number 5 is this side's."""
         text = ",".join(f"{halfword:04x}" for halfword in run) or "-"
-        output = self.output if output is None else output
-        return f"T {self.start} {limit or self.limit} {self.helper16} {self.helper_mem} {output} {text}"
+        return f"T {self.start} {limit or self.limit} {self.helper16} {self.helper_mem} {LENT} {text}"
 
     def fronts(self, reply):
         """For each stand-in of a block the request whose block ends where it begins, none where it is first, and its row."""
         if not reply.startswith("block"):
             return []
-        front = lambda index: self.request(self.run[:2 * index], index, LENT) if index else None
+        front = lambda index: self.request(self.run[:2 * index], index) if index else None
         count = int(reply.split(" ")[2])
         return [(front(index), row) for index, row in self.rest if index < count]
 
@@ -141,66 +146,58 @@ def with_bodies(reply, places, bodies):
 
 
 def translations(oracle, lines):
-    """The replies to translations' lines, given by number, before Q-2 and now, and the lines as they were read."""
-    asked = [Translation(number, line) for number, line in lines]
-    before = answered(oracle, [t.request(t.cut, output=t.output_before) for t in asked])
-    # By an output that is long enough for the original's blocks; number 5 is this side's.
-    stood_in = answered(oracle, [t.request(t.run, output=LENT) for t in asked])
+    """The replies to translations' lines."""
+    asked = [Translation(line) for line in lines]
+    stood_in = answered(oracle, [t.request(t.run) for t in asked])
     fronts = [t.fronts(reply) for t, reply in zip(asked, stood_in)]
     requests = [request for front in fronts for request, _ in front if request]
     lengths = iter([int(reply.split(" ")[1]) - END for reply in answered(oracle, requests)])
     bodies = {row: muldiv.assembled(row) for row in muldiv.BODIES}
-    now = []
+    replies = []
     for t, reply, front in zip(asked, stood_in, fronts):
         places = [(next(lengths) if request else OPENING, row) for request, row in front]
         if reply.startswith("block"):
-            reply = with_bodies(reply, places, bodies) if t.output >= GREATEST else "5"
-        now.append(reply)
-    return before, now, asked
-
-
-def difference(t, before, after):
-    """Two replies to a translation, blocks by length and count."""
-    shown = [" ".join(reply.split(" ")[:3]) for reply in (before, after)]
-    met = int(after.split(" ")[2]) if after.startswith("block") else 0
-    rest = [(index, muldiv.BODIES[row][0]) for index, row in t.rest if index < met]
-    if rest:
-        index, name = rest[0]
-        why = f"{name} is word {index + 1}" + (f", {len(rest)} of the rest of M in all" if len(rest) > 1 else "")
-    else:
-        why = f"output {t.output}"
-    return f"{t.start}, limit {t.limit}, {why}: {shown[0]}, now {shown[1]}"
+            span = spanned(int(reply.split(" ")[2]), t.whole)
+            reply = f"{with_bodies(reply, places, bodies)} {span}" if t.output >= GREATEST else "5"
+        replies.append(reply)
+    return replies
 
 
 HEADING = """\
-Replies of crates/replay that Q-2 changed: line of stdin, start, limit, the first word of the rest of M that is in the block, from 1 on, and
-how many of these are, or else the output's length; then the old reply (number 0 as 'block', length, count) and the new one.
+Replies of crates/replay that Q-5 changed: each block's has its span behind it, how many bytes of the guest's code it spans from its start. The
+old reply is 'block', length, count and bytes; the new one is the old one with a blank and the span behind. These are {blocks:,}: line of stdin,
+count, span. Lines 1 to 3400 are the corpus; lines 3646 to 3658 are 13 new ones, with no old reply. Other replies to T, P and D lines stay.
 
-Lines 1 to 3400 are the corpus; lines up to 3504 stood there before Q-2. Of these, the outputs that had 2,200 to 4,096 bytes have 1,856
-more, as the greatest block has, and the old reply is to the line as it was. Lines behind 3504 are new, and their old reply is what it would
-have been.
+The count is the original Rust's, to the run cut behind a FENCE.I and with ADD in the place of each word of the rest of M. The span is the
+bytes of so many instructions at the front of the run, 4 where the low two bits of an instruction's first halfword are 11, else 2, by the
+manual's "Base Instruction-Length Encoding". All by checks/replies.py, which shares no code with this port; the whole bytes are in
+crates/replay/stdout.
 
-The old replies are the original Rust's (to the run cut behind a FENCE.I). In the new blocks everything is the original's too, asked for the
-run with ADD in the place of each word of the rest of M, but what stands between loads and store of such a word: that is checks/muldiv.py's
-text, made bytes by GNU as. All by checks/replies.py, which shares no code with this port; the whole bytes are in crates/replay/stdout.
+I lines are all made anew by checks/index.py: {indexing:,}, and 977 before. A length and a span stand behind the count now. So of the old lines
+39 sets and 373 inserts are no requests any more, since they have too few numbers, and 101 replies lack two numbers of each entry that they
+show. 'I drop' was no request.
+
 """
 
 
+def rows(replies):
+    """Line, count and span of each block, so many to a row."""
+    blocks = [(k + 1, reply.split(" ")) for k, reply in enumerate(replies) if reply.startswith("block")]
+    told = [f"{line}: {count} {span}" for line, (_, _, count, _, span) in blocks]
+    return len(told), [", ".join(told[k:k + 10]) for k in range(0, len(told), 10)]
+
+
 def replies_to(oracle, lines):
-    """The reply to each line, and the differences that Q-2 has made."""
+    """The reply to each line, and how many of the lines the original was asked for."""
     asked = [k for k, line in enumerate(lines) if is_request(line)]
+    runs = [k for k in asked if lines[k].startswith("T ")]
     others = [k for k in asked if not lines[k].startswith("T ")]
     judges = index.Judges()
     replies = [judges.reply(line) if line.startswith("I ") else BAD for line in lines]
-    for k, reply in zip(others, answered(oracle, [lines[k] for k in others])):
-        replies[k] = reply
-    runs = [k for k in asked if lines[k].startswith("T ")]
-    changes = []
-    for k, before, now, t in zip(runs, *translations(oracle, [(k, lines[k]) for k in runs])):
-        replies[k] = now
-        if before != now:
-            changes.append(f"{k + 1}: {difference(t, before, now)}")
-    return replies, changes, len(asked)
+    for some, said in [(others, answered(oracle, [lines[k] for k in others])), (runs, translations(oracle, [lines[k] for k in runs]))]:
+        for k, reply in zip(some, said):
+            replies[k] = reply
+    return replies, len(asked)
 
 
 def main():
@@ -208,11 +205,13 @@ def main():
         sys.exit(__doc__)
     with open(os.path.join(REPLAY, "stdin"), encoding="ascii") as file:
         lines = file.read().removesuffix("\n").split("\n")
-    replies, changes, asked = replies_to(sys.argv[1], lines)
+    replies, asked = replies_to(sys.argv[1], lines)
+    blocks, told = rows(replies)
     if sys.argv[2:] == ["--changes"]:
-        print("\n".join([HEADING] + changes))
+        indexing = sum(line[:2].upper() == "I " for line in lines)
+        print(HEADING.format(blocks=blocks, indexing=indexing) + "\n".join(told))
         return 0
-    print(f"{len(lines)} lines, {asked} of them requests; {len(changes)} replies are other than before Q-2")
+    print(f"{len(lines)} lines, {asked} of them asked of the original; {blocks} replies are blocks")
     text = "".join(reply + "\n" for reply in replies)
     path = os.path.join(REPLAY, "stdout")
     if sys.argv[2:]:

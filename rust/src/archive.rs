@@ -8,6 +8,7 @@ pub(crate) struct Reply {
     pub(crate) number: u64,
     pub(crate) first: u64,
     pub(crate) second: u64,
+    pub(crate) third: u64,
 }
 
 /// The code store's record: how much of the store is in use. It is lent to the emptying of an index.
@@ -50,4 +51,10 @@ extern "C" {
         block: NativeBlock,
     ) -> Reply;
     pub(crate) fn emuko_index_empty(entries: *mut Entry, entries_len: usize, cache: *mut CodeCache);
+    pub(crate) fn emuko_index_drop(
+        entries: *mut Entry,
+        entries_len: usize,
+        address: u64,
+        n: u64,
+    ) -> usize;
 }

@@ -1,11 +1,11 @@
 //! The index cut into buckets: a scan of a few entries, however many there are.
 
-use crate::index::{clear_marks, empty, find, insert};
+use crate::index::{clear_marks, drop_touched, empty, find, insert};
 use crate::{CodeStore, Entry, InsertRefusal, NativeBlock};
 use core::ops::Range;
 
 /// An index whose entries are cut into buckets of one size. A hash of the key picks the bucket, and all that a
-/// [`BlockIndex`](crate::BlockIndex) does is done in it alone.
+/// [`BlockIndex`](crate::BlockIndex) does with a key is done in it alone.
 ///
 /// Each bucket keeps the promise of a [`BlockIndex`](crate::BlockIndex), and a key has but one bucket: in an index that
 /// [`new`](BucketIndex::new) has made, [`find`](BucketIndex::find) shows for every key the block that was last inserted for it since
@@ -17,19 +17,22 @@ use core::ops::Range;
 ///
 /// let mut store = CodeStore::new(vec![0; 4096]);
 /// let mut index = BucketIndex::new(vec![Entry::default(); 4096], 8);
-/// let block = NativeBlock { offset: store.place(&[0x90; 88])?.offset, count: 1 };
+/// let block = NativeBlock { offset: store.place(&[0x90; 88])?.offset, count: 1, length: 88, span: 4 };
 /// let at = index.insert(0, 0x8000_0000, block)?;
 /// assert!(index.bucket(0, 0x8000_0000).contains(&at));
 /// assert_eq!(index.find(0, 0x8000_0000).map(|entry| entry.block), Some(block));
+/// assert_eq!(index.drop_touched(0x8000_0003, 8), 1);
+/// assert_eq!((index.find(0, 0x8000_0000), store.mark()), (None, 88));
 /// index.empty(&mut store);
-/// assert_eq!((index.find(0, 0x8000_0000), store.mark()), (None, 0));
+/// assert_eq!(store.mark(), 0);
 /// # Ok::<(), Box<dyn std::error::Error>>(())
 /// ```
 ///
 /// # What it costs
 ///
-/// Time: five multiplications, for the hash, the bucket and where it begins, and a scan of one bucket. It does not grow with the number of entries, as long as these
-/// are in the processor's caches.
+/// Time: five multiplications, for the hash, the bucket and where it begins, and a scan of one bucket. It does not grow with the number of
+/// entries, as long as these are in the processor's caches. A [drop](BucketIndex::drop_touched) looks at every entry, as that of a
+/// [`BlockIndex`](crate::BlockIndex) does: a write is no key, and the blocks that it touches stand in any bucket.
 ///
 /// Space: an insert is refused (8) when the key's bucket is full, although others have room. Measured over 4,096 entries, with a hundred
 /// lists of different keys (one address space, starts of blocks one to sixteen words apart), so many of a hundred inserts were refused:
@@ -120,6 +123,14 @@ impl<E: AsRef<[Entry]> + AsMut<[Entry]>> BucketIndex<E> {
     /// [`BlockIndex::empty`](crate::BlockIndex::empty) does. The marks of entries behind the last whole bucket are cleared, too.
     pub fn empty<S>(&mut self, store: &mut CodeStore<S>) {
         empty(self.entries.as_mut(), &mut store.record);
+    }
+
+    /// Drops the blocks that a write of the guest touches, in all buckets and in one call, as
+    /// [`BlockIndex::drop_touched`](crate::BlockIndex::drop_touched) does. Entries behind the last whole bucket are dropped, and counted,
+    /// with the others.
+    #[inline]
+    pub fn drop_touched(&mut self, address: u64, n: u64) -> usize {
+        drop_touched(self.entries.as_mut(), address, n)
     }
 
     /// All entries, those not in use too, bucket behind bucket.

@@ -88,8 +88,8 @@ impl Helpers {
 /// # Ok::<(), Box<dyn std::error::Error>>(())
 /// ```
 ///
-/// What the block does is what the guest's code says only while the halfwords that it was made from are still that code
-/// (["Code that changes"](crate#code-that-changes)); a block whose code has changed does what the old code said.
+/// What the block does is what the guest's code says only while the bytes that it [spans](crate::Block::span) are unchanged
+/// (["Code that changes"](crate#code-that-changes)); a block whose code has changed there does what the old code said.
 ///
 /// # Safety
 ///

@@ -1,20 +1,53 @@
 //! The index: blocks found again by `satp` and pc, in entries that the caller lends.
 
 use crate::archive;
-use crate::CodeStore;
+use crate::{Block, CodeStore};
 use core::error::Error;
 use core::fmt;
 
-/// Where a block stands in the code store, and how many guest instructions it has.
+/// Where a block stands in the code store, how many guest instructions it has, and how many bytes of code and of the guest's code.
 ///
-/// An index keeps both as they are given; whether a block stands there is not asked.
+/// An index keeps all of it as it is given, and of the block nothing else; whether a block stands there is not asked.
 #[repr(C)]
 #[derive(Clone, Copy, Debug, Default, PartialEq, Eq, Hash)]
 pub struct NativeBlock {
     /// Where the block begins in the store: [`Placed::offset`](crate::Placed::offset).
     pub offset: usize,
-    /// The number of guest instructions in it: [`Block::count`](crate::Block::count).
+    /// The number of guest instructions in it: [`Block::count`].
     pub count: u32,
+    /// How many bytes it has in the store: the length of [`Block::bytes`]. An index makes nothing of it.
+    pub length: usize,
+    /// How many bytes of the guest's code it spans from the key's pc on: [`Block::span`]. By this a write is told to touch it, and where
+    /// it is 0, as no translation has it, no write does.
+    pub span: u64,
+}
+
+impl NativeBlock {
+    /// What an index keeps of a block that was placed at this [offset](crate::Placed::offset) of the store.
+    ///
+    /// ```
+    /// use emuko_x64_blocks::{translate, CodeStore, NativeBlock, Request, GREATEST_BLOCK};
+    ///
+    /// // ADDI x1, x0, 5
+    /// let mut out = [0; GREATEST_BLOCK];
+    /// let block = translate(&Request::new(0x8000_0000, &[0x0093, 0x0050]), &mut out)?;
+    /// let mut store = CodeStore::with_mark([0; 4096], 5);
+    /// let placed = store.place(block.bytes())?;
+    /// let kept = NativeBlock::new(placed.offset, &block);
+    /// assert_eq!(kept, NativeBlock { offset: 8, count: 1, length: 88, span: 4 });
+    /// assert_eq!(store.bytes()[kept.offset..][..kept.length], *block.bytes());
+    /// # Ok::<(), Box<dyn std::error::Error>>(())
+    /// ```
+    #[must_use]
+    #[inline]
+    pub fn new(offset: usize, block: &Block<'_>) -> Self {
+        NativeBlock {
+            offset,
+            count: block.count(),
+            length: block.bytes().len(),
+            span: block.span(),
+        }
+    }
 }
 
 /// A place for one block and its key, which is `satp` and the start pc. [`Entry::default`] is not in use.
@@ -30,7 +63,8 @@ pub struct Entry {
     /// The block that was inserted for the key.
     pub block: NativeBlock,
     /// The mark: 0 where the entry is not in use, any other number where it is. Inserting gives the mark 1 to an entry that was not in
-    /// use, and leaves the mark of one that was. What else stands in an entry that is not in use has no meaning to the index.
+    /// use, and leaves the mark of one that was; emptying and dropping make it 0. What else stands in an entry that is not in use has no
+    /// meaning to the index.
     pub in_use: u32,
 }
 
@@ -110,6 +144,13 @@ pub(crate) fn empty(entries: &mut [Entry], record: &mut archive::CodeCache) {
     unsafe { archive::emuko_index_empty(entries.as_mut_ptr(), entries.len(), record) }
 }
 
+/// Clears the marks of those in use whose blocks span one of `n` bytes from the address on; how many they were.
+#[inline]
+pub(crate) fn drop_touched(entries: &mut [Entry], address: u64, n: u64) -> usize {
+    // SAFETY: As of `insert`; it returns a number.
+    unsafe { archive::emuko_index_drop(entries.as_mut_ptr(), entries.len(), address, n) }
+}
+
 /// Clears every mark, where there is no store to be emptied with it.
 pub(crate) fn clear_marks(entries: &mut [Entry]) {
     empty(entries, &mut archive::CodeCache { used: 0 });
@@ -118,16 +159,20 @@ pub(crate) fn clear_marks(entries: &mut [Entry]) {
 /// An index of the blocks in a [`CodeStore`]. The entries are owned or borrowed: a `Vec<Entry>`, an array, a `&mut [Entry]`.
 ///
 /// In an index that [`new`](BlockIndex::new) has made, [`find`](BlockIndex::find) shows for every key the block that was last inserted
-/// for it since the key was last freed, or none. [`empty`](BlockIndex::empty) frees all keys, nothing else frees one, and an insert that
-/// is refused inserts nothing. This is proved, for every list of inserts and emptyings (`HistoryInCode` in the repository's crate index).
+/// for it since the key was last freed, or none. [`empty`](BlockIndex::empty) frees all keys,
+/// [`drop_touched`](BlockIndex::drop_touched) those whose blocks span a byte that was written, nothing else frees one, and an insert that
+/// is refused inserts nothing. This is proved, for every list of inserts, emptyings and drops (`HistoryInCode` in the repository's crate
+/// index).
 ///
 /// ```
 /// use emuko_x64_blocks::{BlockIndex, CodeStore, Entry, InsertRefusal, NativeBlock};
 ///
 /// let mut store = CodeStore::new(vec![0; 4096]);
 /// let mut index = BlockIndex::new([Entry::default(); 2]);
-/// let first = NativeBlock { offset: store.place(&[0x90; 88])?.offset, count: 1 };
-/// let second = NativeBlock { offset: store.place(&[0x90; 67])?.offset, count: 1 };
+/// let mut block = |length| -> Result<_, emuko_x64_blocks::PlaceRefusal> {
+///     Ok(NativeBlock { offset: store.place(&vec![0x90; length])?.offset, count: 1, length, span: 4 })
+/// };
+/// let (first, second) = (block(88)?, block(67)?);
 /// assert_eq!(index.insert(0, 0x8000_0000, first), Ok(0));
 /// assert_eq!(index.insert(0, 0x8000_0004, second), Ok(1));
 /// assert_eq!(index.find(0, 0x8000_0004).map(|entry| entry.block), Some(second));
@@ -136,6 +181,9 @@ pub(crate) fn clear_marks(entries: &mut [Entry]) {
 /// assert_eq!(index.insert(1, 0x8000_0004, second), Err(InsertRefusal::Full));
 /// assert_eq!(index.insert(0, 0x8000_0000, second), Ok(0));
 ///
+/// // The guest writes two bytes, of which the second is the first of four at 0x8000_0000.
+/// assert_eq!(index.drop_touched(0x7FFF_FFFF, 2), 1);
+/// assert_eq!(index.find(0, 0x8000_0000), None);
 /// index.empty(&mut store);
 /// assert_eq!((index.find(0, 0x8000_0004), store.mark()), (None, 0));
 /// # Ok::<(), emuko_x64_blocks::PlaceRefusal>(())
@@ -146,7 +194,7 @@ pub(crate) fn clear_marks(entries: &mut [Entry]) {
 /// [`find`](BlockIndex::find) is a scan: it looks at one entry after the other, up to the first that has the key, and at all of them
 /// where none has it. [`insert`](BlockIndex::insert) scans for the key, and where that is new a second time, for an entry not in use.
 /// Up to which number of entries a scan takes less time than translating anew stands in the repository's docs/PERFORMANCE.md. For more
-/// entries there is [`BucketIndex`](crate::BucketIndex).
+/// entries there is [`BucketIndex`](crate::BucketIndex). [`drop_touched`](BlockIndex::drop_touched) looks at every entry, also there.
 ///
 /// # Placing and inserting
 ///
@@ -175,10 +223,11 @@ impl<E: AsRef<[Entry]> + AsMut<[Entry]>> BlockIndex<E> {
     /// ```
     /// use emuko_x64_blocks::{BlockIndex, Entry, NativeBlock};
     ///
-    /// let entry = |offset| Entry { satp: 0, pc: 4, block: NativeBlock { offset, count: 1 }, in_use: 1 };
+    /// let block = |offset| NativeBlock { offset, count: 1, length: 88, span: 4 };
+    /// let entry = |offset| Entry { satp: 0, pc: 4, block: block(offset), in_use: 1 };
     /// let mut index = BlockIndex::filled_elsewhere([Entry::default(), entry(64), entry(128)]);
     /// assert_eq!(index.find(0, 4), Some(entry(64)));
-    /// assert_eq!(index.insert(0, 4, NativeBlock { offset: 192, count: 1 }), Ok(1));
+    /// assert_eq!(index.insert(0, 4, block(192)), Ok(1));
     /// assert_eq!(index.entries(), [Entry::default(), entry(192), entry(128)]);
     /// ```
     #[must_use]
@@ -210,11 +259,41 @@ impl<E: AsRef<[Entry]> + AsMut<[Entry]>> BlockIndex<E> {
     }
 
     /// Empties the index and the store that its blocks stand in, in one call: every entry's mark becomes 0, and so does the store's.
-    /// Nothing else changes: key, offset and count can still be read in [`entries`](BlockIndex::entries), and the store's bytes stay.
+    /// Nothing else changes: key and block can still be read in [`entries`](BlockIndex::entries), and the store's bytes stay.
     ///
     /// What is placed next is written over the blocks that were there, so none of these may be entered from then on.
     pub fn empty<S>(&mut self, store: &mut CodeStore<S>) {
         empty(self.entries.as_mut(), &mut store.record);
+    }
+
+    /// Drops the blocks that a write of the guest touches: the marks of the entries in use, under every `satp`, whose blocks span one of
+    /// the `n` bytes from `address` on become 0. How many these were; nothing else changes, neither in them nor in the others.
+    ///
+    /// Both ranges of bytes go on from 2^64 - 1 to 0. A write of no bytes touches nothing, also inside a block; every other number may be
+    /// given, up to 2^64 - 1. What a caller must call this for, and with which address, stands at
+    /// ["Code that changes"](crate#code-that-changes).
+    ///
+    /// The store is not lent: its bytes and its mark stay as they are, so a helper may drop the block that has called it, and the room of
+    /// what was dropped is taken until the store is [emptied](BlockIndex::empty).
+    ///
+    /// ```
+    /// use emuko_x64_blocks::{BlockIndex, Entry, NativeBlock};
+    ///
+    /// let mut index = BlockIndex::new([Entry::default(); 4]);
+    /// // Eight bytes, the last four of them from address 0 on, under two satps.
+    /// let block = NativeBlock { offset: 0, count: 2, length: 95, span: 8 };
+    /// for satp in [0, 1] {
+    ///     index.insert(satp, 0xFFFF_FFFF_FFFF_FFFC, block)?;
+    /// }
+    /// assert_eq!(index.drop_touched(4, 1), 0);
+    /// assert_eq!(index.drop_touched(3, 0), 0);
+    /// assert_eq!(index.drop_touched(3, 1), 2);
+    /// assert!(index.entries().iter().all(|entry| !entry.is_in_use()));
+    /// # Ok::<(), emuko_x64_blocks::InsertRefusal>(())
+    /// ```
+    #[inline]
+    pub fn drop_touched(&mut self, address: u64, n: u64) -> usize {
+        drop_touched(self.entries.as_mut(), address, n)
     }
 
     /// All entries, those not in use too.

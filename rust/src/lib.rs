@@ -10,13 +10,14 @@
 //! let run = [0x0093, 0x0050];
 //! let mut out = [0; GREATEST_BLOCK];
 //! let block = translate(&Request::new(0x8000_0000, &run), &mut out)?;
-//! assert_eq!((block.bytes().len(), block.count()), (88, 1));
+//! assert_eq!((block.bytes().len(), block.count(), block.span()), (88, 1, 4));
 //! assert_eq!(block.bytes().last(), Some(&0xC3));
 //! # Ok::<(), emuko_x64_blocks::Refusal>(())
 //! ```
 //!
 //! Where fetching has effects of its own, as under page tables, [`Run::fetch`] fetches just what a translation needs. [`CodeStore`]
-//! keeps blocks one behind the other, [`BlockIndex`] finds them again, and [`block_fn`] makes a function of one.
+//! keeps blocks one behind the other, [`BlockIndex`] finds them again and drops those whose code the guest writes over, and [`block_fn`]
+//! makes a function of one.
 //!
 //! Multiplication and division (M) are in line. A zero divisor and the signed overflow give the RISC-V manual's values, and never the
 //! host's fault.
@@ -40,7 +41,7 @@
 //! impl Kept {
 //!     fn keep(&mut self, satp: u64, pc: u64, block: &Block) -> Result<NativeBlock, Box<dyn Error>> {
 //!         let offset = self.store.place(block.bytes())?.offset;
-//!         let block = NativeBlock { offset, count: block.count() };
+//!         let block = NativeBlock::new(offset, block);
 //!         self.index.insert(satp, pc, block)?;
 //!         Ok(block)
 //!     }
@@ -82,14 +83,54 @@
 //!
 //! # Code that changes
 //!
-//! A block does what the guest's code says as long as the halfwords that it was made from, no more than [`Run::fetch`] fetches, are those
-//! that stand in the guest's code when the block is entered. That is a premise of what is proved, and nothing here tests it: a block that
-//! is kept must not be entered any more once one of them has changed. Code elsewhere may change freely.
+//! A block does what the guest's code says as long as that has not changed in the bytes that the block spans, which are those of the
+//! instructions that it counts ([`Block::span`]). Proved is: if the guest's code has not changed in the bytes that a block spans since it
+//! was translated, entering it gives the manual's run of the code as it is now, read for at most the block's count of instructions, the
+//! helper's included (`AgreementOfKept` in the repository's crate agreement). So a refused word behind the span, before which the block
+//! ended, may change, and all other code as well. The premise is nothing that a block tests: one that is kept must not be entered any more
+//! once one of the bytes that it spans has changed.
+//!
+//! An index keeps each block's span, and [`BlockIndex::drop_touched`] drops, under every `satp`, the blocks that span a byte of a write.
+//! Proved is as well: from an empty index, through any order of translations inserted, guest writes each followed by its drop, and
+//! emptyings, every entry in use has its span unchanged since its translation (`KeepsSpans` in the repository's crate coherence). So a
+//! block that no drop has touched may be entered. What is left to the caller:
+//!
+//! - Every write that reaches code is followed by its drop before the next block is entered: those of stores, which a helper executes,
+//!   and those of devices and of the caller itself. A drop may be left out where it is known to touch nothing, as by a list of the pages
+//!   in which kept blocks have code.
+//! - The address of a drop is one by which code is fetched, as the pcs of blocks are: a virtual address where addresses are translated. A
+//!   caller that writes bytes through another mapping of them, or by their physical address, drops once for each address by which they
+//!   can be fetched, whatever the `satp`. Where it is another mapping that puts other code there, and no write, the addresses that it
+//!   changes are dropped as if they had been written, or all is emptied.
+//! - A block is inserted as it was translated from code that has not been written since, with the span that the translation gave
+//!   ([`NativeBlock::new`]), and under the pc that it was translated for.
+//!
+//! ```
+//! use emuko_x64_blocks::{translate, BlockIndex, CodeStore, Entry, NativeBlock, Request, GREATEST_BLOCK};
+//!
+//! // ADDI x1, x0, 5; LD x3, 0(x1), which ends the block; what stands behind it is none of the block.
+//! let run = [0x0093, 0x0050, 0xB183, 0x0000];
+//! let mut out = [0; GREATEST_BLOCK];
+//! let block = translate(&Request::new(0x8000_0000, &run), &mut out)?;
+//! assert_eq!((block.count(), block.span()), (2, 8));
+//! let mut store = CodeStore::new(vec![0; 1 << 16]);
+//! let mut index = BlockIndex::new(vec![Entry::default(); 2]);
+//! let offset = store.place(block.bytes())?.offset;
+//! index.insert(0, 0x8000_0000, NativeBlock::new(offset, &block))?;
+//!
+//! // The guest stores eight bytes behind the block, and then two that are the upper half of LD.
+//! assert_eq!(index.drop_touched(0x8000_0008, 8), 0);
+//! assert!(index.find(0, 0x8000_0000).is_some());
+//! assert_eq!(index.drop_touched(0x8000_0006, 2), 1);
+//! assert_eq!(index.find(0, 0x8000_0000), None);
+//! # Ok::<(), Box<dyn std::error::Error>>(())
+//! ```
 //!
 //! FENCE.I is where a guest asks that its stores be seen by later fetches. It ends its block, so that a caller comes back to its own loop
 //! before anything behind it is translated or entered: [`BlockResult::next_pc`] is then the address behind it, and [`Run::fetch`] has
-//! fetched nothing from there. Whoever keeps blocks either drops each when a store reaches its halfwords, or drops all of them
-//! ([`BlockIndex::empty`]) behind every FENCE.I, at the latest before the next block is entered, and translates what is entered anew:
+//! fetched nothing from there. Whoever keeps blocks either drops behind every write those that it touches, and has nothing to do at
+//! FENCE.I, or drops all of them ([`BlockIndex::empty`]) behind every FENCE.I, at the latest before the next block is entered, and
+//! translates what is entered anew:
 //!
 //! ```
 //! use emuko_x64_blocks::{translate, Request, GREATEST_BLOCK};
@@ -98,15 +139,15 @@
 //! let run = [0x100F, 0x0000, 0x0093, 0x0050];
 //! let mut out = [0; GREATEST_BLOCK];
 //! let block = translate(&Request::new(0x8000_0000, &run), &mut out)?;
-//! assert_eq!((block.bytes().len(), block.count()), (67, 1));
+//! assert_eq!((block.bytes().len(), block.count(), block.span()), (67, 1, 4));
 //! // The block's last word is word count - 1 of the run; by opcode and funct3 it is FENCE.I.
 //! let last = run[2 * (block.count() as usize - 1)];
 //! assert_eq!(last & 0x707F, 0x100F);
 //! # Ok::<(), emuko_x64_blocks::Refusal>(())
 //! ```
 //!
-//! In the second way a block may be entered between a store to its halfwords and the next FENCE.I. The manual lets such a fetch see the old
-//! code as well as the new, but the proof covers only entries of blocks whose halfwords are unchanged.
+//! In the second way a block may be entered between a store to the bytes that it spans and the next FENCE.I. The manual lets such a fetch
+//! see the old code as well as the new, but the proof covers only entries of blocks whose spans are unchanged.
 //!
 //! # Building
 //!
@@ -140,3 +181,6 @@ pub const LEAST_BLOCK: usize = 67;
 
 /// The greatest number of guest instructions in a block. Higher limits work as this one.
 pub const MOST_STEPS: u32 = 64;
+
+/// The greatest number of bytes of the guest's code that a block [spans](Block::span): those of [`MOST_STEPS`] words.
+pub const MOST_SPAN: u64 = 256;

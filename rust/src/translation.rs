@@ -14,7 +14,8 @@ pub struct Request<'a> {
     /// The greatest number of guest instructions to take; [`MOST_STEPS`] where it is more than that.
     pub limit: u32,
     /// The guest's code from `start` on, as far as it can be fetched, or a [`Run`](crate::Run) of it. The block may be entered as long
-    /// as this is still the guest's code there (["Code that changes"](crate#code-that-changes)).
+    /// as the bytes of it that the block [spans](Block::span) are still the guest's code there
+    /// (["Code that changes"](crate#code-that-changes)).
     pub halfwords: &'a [u16],
     /// The addresses that helper ends call.
     pub helpers: Helpers,
@@ -64,6 +65,7 @@ impl<'a> Request<'a> {
 pub struct Block<'o> {
     bytes: &'o [u8],
     count: u32,
+    span: u64,
 }
 
 impl<'o> Block<'o> {
@@ -79,6 +81,32 @@ impl<'o> Block<'o> {
     #[inline]
     pub fn count(&self) -> u32 {
         self.count
+    }
+
+    /// How many bytes of the guest's code the block spans, from its start on: the sizes of the instructions that it counts, added up. A
+    /// word has 4 bytes, whoever executes it, and a compressed halfword, which a helper executes, has 2. From 2 to
+    /// [`MOST_SPAN`](crate::MOST_SPAN).
+    ///
+    /// What a block ends before is not counted and not spanned: a word that is not taken, a halfword that is missing, whatever stands
+    /// behind the limit. Such code may change, and the block may still be entered; once one of the bytes that it spans has changed, it may
+    /// not (["Code that changes"](crate#code-that-changes)).
+    ///
+    /// ```
+    /// use emuko_x64_blocks::{translate, Refusal, Request, GREATEST_BLOCK};
+    ///
+    /// let mut out = [0; GREATEST_BLOCK];
+    /// let mut span = |run: &[u16]| translate(&Request::new(0x8000_0000, run), &mut out).map(|block| block.span());
+    /// // ADDI x1, x0, 5; then C.NOP; LD x1, 0(x1); a branch with funct3 2, which is not taken; the first half of a word.
+    /// assert_eq!(span(&[0x0093, 0x0050, 0x0001])?, 6);
+    /// assert_eq!(span(&[0x0093, 0x0050, 0xB083, 0x0000])?, 8);
+    /// assert_eq!(span(&[0x0093, 0x0050, 0x2063, 0x0000])?, 4);
+    /// assert_eq!(span(&[0x0093, 0x0050, 0x0093])?, 4);
+    /// # Ok::<(), Refusal>(())
+    /// ```
+    #[must_use]
+    #[inline]
+    pub fn span(&self) -> u64 {
+        self.span
     }
 }
 
@@ -184,6 +212,7 @@ pub fn translate<'o>(request: &Request<'_>, out: &'o mut [u8]) -> Result<Block<'
         0 => Ok(Block {
             bytes: &out[..reply.first as usize],
             count: reply.second as u32,
+            span: reply.third,
         }),
         1 => Err(Refusal::LimitZero),
         2 => Err(Refusal::OddStart(reply.first)),

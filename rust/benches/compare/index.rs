@@ -1,5 +1,6 @@
 //! An index of blocks: find, as a scan and in buckets, beside a `HashMap` with the same keys, as the original keeps one, and beside
-//! translating 16 words anew. docs/PERFORMANCE.md says up to which number of entries a scan takes less time than that.
+//! translating 16 words anew; and the drop of what a write touches, beside translating 16 words, too. docs/PERFORMANCE.md says up to which
+//! number of entries a scan takes less time than that.
 
 use crate::random::Random;
 use crate::runs::{cases, Case, START};
@@ -81,8 +82,13 @@ fn blocks(number: usize, seed: u64) -> Vec<(Key, NativeBlock)> {
     let mut pc = START;
     let mut next = |k| {
         pc += 4 * (1 + r.below(16));
-        let offset = 256 * k;
-        ((SATP, pc), NativeBlock { offset, count: 16 })
+        let block = NativeBlock {
+            offset: 256 * k,
+            count: 16,
+            length: 250,
+            span: 64,
+        };
+        ((SATP, pc), block)
     };
     (0..number).map(&mut next).collect()
 }
@@ -137,6 +143,44 @@ fn in_buckets() -> Kept {
     }
 }
 
+/// Writes of eight bytes and so many entries, all in use, one write for each translation: one that touches none of them, and one that
+/// touches the last, which is then put into use again. Spans are short, so that no other is touched.
+fn dropping(number: usize, case: &Case) {
+    let request = Request::new(START, &case.run);
+    let mut out = vec![0; GREATEST_BLOCK];
+    let mut entries: Vec<Entry> = blocks(number, 80)
+        .into_iter()
+        .map(|((satp, pc), block)| Entry {
+            satp,
+            pc,
+            block: NativeBlock { span: 4, ..block },
+            in_use: 1,
+        })
+        .collect();
+    let last = entries[number - 1].pc;
+    for (name, address, touched) in [("none", last + 4, 0), ("the last", last, 1)] {
+        let dropped = || {
+            for _ in 0..TIMES {
+                let mut index = BlockIndex::filled_elsewhere(&mut entries[..]);
+                let dropped = index.drop_touched(black_box(address), black_box(8));
+                assert_eq!(dropped, touched);
+                entries[number - 1].in_use = 1;
+            }
+        };
+        let translated = || {
+            for _ in 0..TIMES {
+                let _ = black_box(translate(black_box(&request), black_box(&mut out)));
+            }
+        };
+        row(
+            &format!("drop {name} of {number} entries"),
+            TIMES,
+            dropped,
+            translated,
+        );
+    }
+}
+
 pub fn rows() {
     heading_beside("an index beside a map", "HashMap, ns");
     for number in [16, 64, 1024] {
@@ -150,4 +194,8 @@ pub fn rows() {
         scanned(number).beside_translating(words.unwrap());
     }
     in_buckets().beside_translating(words.unwrap());
+    heading_beside("a write's drop beside the same", "anew, ns");
+    for number in [16, 64, 1024, 4096] {
+        dropping(number, words.unwrap());
+    }
 }

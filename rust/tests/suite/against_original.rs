@@ -5,15 +5,17 @@ use crate::fence_i::words_to_fence_i;
 use crate::random::Random;
 use crate::requests::{self, Lent, Wanted};
 use crate::rest_of_m::{first_of_the_rest, judged};
+use crate::spans;
 use crate::words;
 use emuko_original::{Answer, Emuko, Original, CODE_SIZE};
 use emuko_x64_blocks::{translate, Refusal, Request, GREATEST_BLOCK};
 
-/// Length and count of a block.
+/// Length, count and span of a block.
 #[derive(Clone, Copy, Debug, PartialEq, Eq)]
 pub struct Size {
     pub length: usize,
     pub count: u32,
+    pub span: u64,
 }
 
 /// The original, and what a comparison needs again and again.
@@ -32,7 +34,8 @@ impl Comparison {
         }
     }
 
-    /// What the original says to a request, asked as above; its block's bytes are then in `self.bytes`.
+    /// What the original says to a request, asked as above, and the span of as many instructions as it counts; its block's bytes are then
+    /// in `self.bytes`.
     fn expected(&mut self, request: &Request, output: usize) -> Result<Size, Refusal> {
         let answer = judged(
             &mut self.original,
@@ -48,6 +51,7 @@ impl Comparison {
             Answer::Block(count) => Ok(Size {
                 length: self.bytes.len(),
                 count,
+                span: spans::of(request.halfwords, count),
             }),
             Answer::LimitZero => Err(Refusal::LimitZero),
             Answer::OddStart(start) => Err(Refusal::OddStart(start)),
@@ -62,6 +66,7 @@ impl Comparison {
         let reply = translate(request, self.lent.lend(output)).map(|block| Size {
             length: block.bytes().len(),
             count: block.count(),
+            span: block.span(),
         });
         assert_eq!(reply, expected, "{request:x?}, output {output}");
         let written = match reply {
@@ -241,8 +246,13 @@ fn every_output_length() {
         }
         for output in GREATEST_BLOCK..GREATEST_BLOCK + 300 {
             let reply = comparison.reply(&request, output);
-            let count = words as u32;
-            assert_eq!(reply, Ok(Size { length, count }));
+            let (count, span) = (words as u32, 4 * words as u64);
+            let size = Size {
+                length,
+                count,
+                span,
+            };
+            assert_eq!(reply, Ok(size));
             lengths += 1;
         }
     }

@@ -410,28 +410,28 @@ fn numbers_and_texts() {
 #[test]
 fn values_that_a_reply_lacks() {
     let mut out = [0; GREATEST_BLOCK];
-    let values = |reply: Reply| (reply.number, reply.first, reply.second);
+    let values = |reply: Reply| (reply.number, reply.first, reply.second, reply.third);
     let mut translated = |start: u64, limit: u32, run: &[u16], room: usize| {
         let (halfwords, out) = (run.as_ptr(), out.as_mut_ptr());
         // SAFETY: The lengths are those of the slices, or less.
         values(unsafe { emuko_translate(start, limit, halfwords, run.len(), 0, 0, out, room) })
     };
-    assert_eq!(translated(START, 0, &ADDI, 0), (1, 0, 0));
-    assert_eq!(translated(START + 1, 1, &ADDI, 0), (2, START + 1, 0));
-    assert_eq!(translated(START, 1, &[], 0), (3, 0, 0));
-    assert_eq!(translated(START, 1, &ADDI[..1], 0), (3, 1, 0));
-    assert_eq!(translated(START, 1, &[0x0073, 0x0000], 0), (4, 0x73, 0));
-    assert_eq!(translated(START, 1, &ADDI, 2243), (5, 0, 0));
-    assert_eq!(translated(START, 1, &ADDI, 4098), (5, 0, 0));
-    assert_eq!(translated(START, 64, &ADDI, 4099), (0, 88, 1));
+    assert_eq!(translated(START, 0, &ADDI, 0), (1, 0, 0, 0));
+    assert_eq!(translated(START + 1, 1, &ADDI, 0), (2, START + 1, 0, 0));
+    assert_eq!(translated(START, 1, &[], 0), (3, 0, 0, 0));
+    assert_eq!(translated(START, 1, &ADDI[..1], 0), (3, 1, 0, 0));
+    assert_eq!(translated(START, 1, &[0x0073, 0x0000], 0), (4, 0x73, 0, 0));
+    assert_eq!(translated(START, 1, &ADDI, 2243), (5, 0, 0, 0));
+    assert_eq!(translated(START, 1, &ADDI, 4098), (5, 0, 0, 0));
+    assert_eq!(translated(START, 64, &ADDI, 4099), (0, 88, 1, 4));
     let (code, mut store) = ([7; 4], [0; 8]);
     let mut placed = |used: usize| {
         // SAFETY: As above.
         values(unsafe { emuko_place(code.as_ptr(), 4, store.as_mut_ptr(), 8, used) })
     };
-    assert_eq!(placed(9), (6, 0, 0));
-    assert_eq!(placed(5), (7, 0, 0));
-    assert_eq!(placed(1), (0, 4, 8));
+    assert_eq!(placed(9), (6, 0, 0, 0));
+    assert_eq!(placed(5), (7, 0, 0, 0));
+    assert_eq!(placed(1), (0, 4, 8, 0));
     // SAFETY: Any number may be passed.
     assert_eq!(unsafe { emuko_word_kind(0x0000_100F) }, 2);
 }

@@ -10,21 +10,21 @@ use crate::rest_of_m::{of_m, M};
 use crate::words;
 use emuko_original::{Answer, Emuko, Original};
 use emuko_x64_blocks::{
-    block_fn, translate, BlockResult, CodeStore, HelperFn, Helpers, Refusal, Request,
-    GREATEST_BLOCK,
+    block_fn, translate, BlockIndex, BlockResult, CodeStore, Entry, HelperFn, Helpers, NativeBlock,
+    Refusal, Request, GREATEST_BLOCK,
 };
-use std::collections::HashMap;
+use std::collections::HashSet;
 use std::ffi::c_void;
 
 /// How often each thing was seen.
 #[derive(Debug, Default)]
-struct Seen {
+pub struct Seen {
     lists: u32,
     turns: u32,
     refused: u32,
-    entries: u32,
-    halfword_helpers: u32,
-    memory_helpers: u32,
+    pub entries: u32,
+    pub halfword_helpers: u32,
+    pub memory_helpers: u32,
     instructions: u64,
     /// By funct3 of a branch that ended a block: not taken, taken.
     branches: [[u32; 2]; 8],
@@ -76,8 +76,8 @@ fn word_at(halfwords: &[u16], k: usize) -> u32 {
 }
 
 /// A list of turns on both sides: the manual's run, and slots, pc and the sum of RDX over the blocks entered since the last helper block.
-struct List<'a> {
-    machine: &'a mut Machine,
+pub struct List<'a> {
+    pub machine: &'a mut Machine,
     run: Run,
     pc: u64,
     sum: u64,
@@ -85,6 +85,14 @@ struct List<'a> {
 
 impl<'a> List<'a> {
     fn new(machine: &'a mut Machine, r: &mut Random) -> Self {
+        let mut list = List::at(machine, r, 0);
+        list.pc = requests::start(r) & !1;
+        list.run.pc = list.pc;
+        list
+    }
+
+    /// A list that begins at this pc.
+    pub fn at(machine: &'a mut Machine, r: &mut Random, pc: u64) -> Self {
         let mut x = [0; 32];
         for register in &mut x[1..] {
             *register = value(r);
@@ -95,7 +103,6 @@ impl<'a> List<'a> {
         x[dividend] = r.one_of(&[1 << 63, 1 << 31 | above]);
         x[divisor] = r.one_of(&[u64::MAX, 0xFFFF_FFFF | above]);
         machine.slots().copy_from_slice(&x);
-        let pc = requests::start(r) & !1;
         let run = Run { x, pc, count: 0 };
         List {
             machine,
@@ -115,17 +122,32 @@ impl<'a> List<'a> {
         } else {
             GREATEST_BLOCK
         };
-        let before = self.run.clone();
-        let turn = self.run.turn(limit, &halfwords, output);
         let request = Request::new(self.pc, &halfwords);
         let request = request.limit(limit).helpers(helpers());
         let reply = translate(&request, &mut self.machine.out[..output]);
+        let turn = self.run.clone().turn(limit, &halfwords, output);
         assert_eq!(reply.is_err(), turn == Turn::Refused, "{request:x?}");
         let Ok(block) = reply else {
             seen.refused += 1;
             return;
         };
         let (length, count) = (block.bytes().len(), u64::from(block.count()));
+        self.enter(length, count, limit, &halfwords, seen);
+    }
+
+    /// Enters the block that stands at the front of `out`, of so many bytes for so many instructions, with what the manual says of the
+    /// code at the pc, read for at most `limit` instructions.
+    pub fn enter(
+        &mut self,
+        length: usize,
+        count: u64,
+        limit: u32,
+        halfwords: &[u16],
+        seen: &mut Seen,
+    ) {
+        let before = self.run.clone();
+        let turn = self.run.turn(limit, halfwords, GREATEST_BLOCK);
+        let request = Request::new(self.pc, halfwords).limit(limit);
         let after = self.machine.after();
         let entered = self.machine.enter(length, &after);
         seen.entries += 1;
@@ -134,7 +156,7 @@ impl<'a> List<'a> {
             (Turn::Plain { added }, None) => {
                 assert_eq!((entered.rdx, count), (added, added), "{request:x?}");
                 self.sum += entered.rdx;
-                seen.plain(before, &halfwords, added, self.run.pc);
+                seen.plain(before, halfwords, added, self.run.pc);
             }
             (Turn::Helper { .. }, Some(called)) => {
                 let added = self.by_helper(turn, called, &entered, &after, seen);
@@ -314,6 +336,8 @@ const BASE: u64 = 0x8000_0000;
 struct Guest {
     x: [u64; 32],
     code: [u16; 32],
+    /// Where it has stored words since this was last looked at.
+    stored: Vec<u64>,
 }
 
 impl Guest {
@@ -326,7 +350,8 @@ impl Guest {
         }
         let mut x = [0; 32];
         [x[5], x[6], x[7]] = [BASE, u64::from(word), 2];
-        Guest { x, code }
+        let stored = Vec::new();
+        Guest { x, code, stored }
     }
 
     fn index(address: u64) -> usize {
@@ -350,42 +375,58 @@ unsafe extern "C" fn store_word(
     let at = Guest::index(address);
     let word = guest.x[instruction >> 20 & 31] as u32;
     guest.code[at..at + 2].copy_from_slice(&words::halves(word));
+    guest.stored.push(address);
     BlockResult {
         next_pc: pc + 4,
         executed: 1,
     }
 }
 
-/// A block that is kept: its offset in the store, and whether a FENCE.I ends it.
-#[derive(Clone, Copy)]
-struct Kept {
-    offset: usize,
-    by_fence_i: bool,
+/// When blocks that are kept are dropped: never, all of them behind a FENCE.I, or behind every store those that it touches.
+#[derive(Clone, Copy, Debug, PartialEq)]
+enum Drops {
+    Never,
+    BehindFenceI,
+    BehindStores,
 }
 
-/// What an emulator keeps: blocks by their pc.
+/// What an emulator keeps.
 struct Keeping {
     store: CodeStore<&'static mut [u8]>,
-    blocks: HashMap<u64, Kept>,
+    index: BlockIndex<[Entry; 16]>,
+    /// The offsets of the blocks that a FENCE.I ends.
+    by_fence_i: HashSet<usize>,
+    translations: u32,
 }
 
 impl Keeping {
     fn new() -> Self {
         Keeping {
             store: CodeStore::new(executable(1 << 16)),
-            blocks: HashMap::new(),
+            index: BlockIndex::new([Entry::default(); 16]),
+            by_fence_i: HashSet::new(),
+            translations: 0,
         }
     }
 
-    fn drop_all(&mut self) {
-        self.blocks.clear();
-        self.store.clear();
+    /// Drops behind a block that was entered.
+    fn drop(&mut self, drops: Drops, entered: NativeBlock, stored: &mut Vec<u64>) {
+        let by_fence_i = self.by_fence_i.contains(&entered.offset);
+        for address in stored.drain(..) {
+            if drops == Drops::BehindStores {
+                self.index.drop_touched(address, 4);
+            }
+        }
+        if drops == Drops::BehindFenceI && by_fence_i {
+            self.index.empty(&mut self.store);
+            self.by_fence_i.clear();
+        }
     }
 
     /// The block that is kept for the pc, or else one made from the code as it is now; none where the word there is not taken.
-    fn block(&mut self, guest: &Guest, pc: u64) -> Option<Kept> {
-        if let Some(kept) = self.blocks.get(&pc) {
-            return Some(*kept);
+    fn block(&mut self, guest: &Guest, pc: u64) -> Option<NativeBlock> {
+        if let Some(kept) = self.index.find(0, pc) {
+            return Some(kept.block);
         }
         let mut run = emuko_x64_blocks::Run::new();
         let fetch = |address| guest.code.get(Guest::index(address)).copied().ok_or(());
@@ -393,15 +434,17 @@ impl Keeping {
         let mut out = [0; GREATEST_BLOCK];
         let helpers = Helpers::new(store_word, store_word);
         let block = translate(&Request::new(pc, &run).helpers(helpers), &mut out).ok()?;
-        let kept = Kept {
-            offset: self.store.place(block.bytes()).unwrap().offset,
-            by_fence_i: is_fence_i(word_at(&run, block.count() as usize - 1)),
-        };
-        self.blocks.insert(pc, kept);
+        let offset = self.store.place(block.bytes()).unwrap().offset;
+        if is_fence_i(word_at(&run, block.count() as usize - 1)) {
+            self.by_fence_i.insert(offset);
+        }
+        let kept = NativeBlock::new(offset, &block);
+        self.index.insert(0, pc, kept).unwrap();
+        self.translations += 1;
         Some(kept)
     }
 
-    fn enter(&self, block: Kept, guest: &mut Guest) -> BlockResult {
+    fn enter(&self, block: NativeBlock, guest: &mut Guest) -> BlockResult {
         let hart = &raw mut *guest;
         let none = std::ptr::null_mut();
         // SAFETY: The block stands in executable memory as it was translated; its helper takes the guest as the hart.
@@ -413,23 +456,21 @@ impl Keeping {
     }
 }
 
-/// Runs a guest until a word is not taken, and gives its x1 and how many instructions were executed. Where `drops`, no block is kept behind
-/// a FENCE.I.
-fn run_keeping_blocks(mut guest: Guest, drops: bool) -> (u64, u64) {
+/// Runs a guest until a word is not taken, and gives its x1, how many instructions were executed and how many blocks translated.
+fn run_keeping_blocks(mut guest: Guest, drops: Drops) -> (u64, u64, u32) {
     let mut keeping = Keeping::new();
     let (mut pc, mut executed) = (BASE, 0);
     while let Some(block) = keeping.block(&guest, pc) {
         let result = keeping.enter(block, &mut guest);
         (pc, executed) = (result.next_pc, executed + result.executed);
-        if drops && block.by_fence_i {
-            keeping.drop_all();
-        }
+        keeping.drop(drops, block, &mut guest.stored);
     }
-    (guest.x[1], executed)
+    (guest.x[1], executed, keeping.translations)
 }
 
 /// Guests that store over code of theirs which has been executed: ADDI x1, x1, 5 becomes ADDI x1, x1, 7. Behind FENCE.I the new word is
-/// executed, where blocks kept from before are dropped there; kept on, the old one is executed twice.
+/// executed, where blocks kept from before are dropped there or those that the store touches behind it; kept on, the old one is executed
+/// twice.
 #[test]
 fn self_modified_code() {
     // The word right behind FENCE.I, in a loop: a block that went on behind it would hold the old word.
@@ -452,10 +493,15 @@ fn self_modified_code() {
         0x0050_8093, // ADDI x1, x1, 5
         0x0001_0067, // JALR x0, 0(x2)
     ];
-    for (program, executed) in [(&behind[..], 10), (&called[..], 8)] {
-        let guest = || Guest::new(program, 0x0070_8093);
-        assert_eq!(run_keeping_blocks(guest(), true), (12, executed));
-        assert_eq!(run_keeping_blocks(guest(), false), (10, executed));
+    // How many blocks are translated where all are kept; dropped behind FENCE.I; dropped behind stores.
+    for (program, executed, translations) in
+        [(&behind[..], 10, [3, 6, 4]), (&called[..], 8, [5, 6, 6])]
+    {
+        let ran = |drops| run_keeping_blocks(Guest::new(program, 0x0070_8093), drops);
+        let [kept, fenced, stored] = translations;
+        assert_eq!(ran(Drops::Never), (10, executed, kept));
+        assert_eq!(ran(Drops::BehindFenceI), (12, executed, fenced));
+        assert_eq!(ran(Drops::BehindStores), (12, executed, stored));
     }
 }
 

@@ -31,7 +31,7 @@ fn translates_places_and_enters() {
         let text = succeeds(&mut Command::new(&program));
         assert_eq!(
             text,
-            "c/test.c: blocks were translated, placed and entered, and found again\n"
+            "c/test.c: blocks were translated, placed and entered, found again and dropped\n"
         );
     }
 }
@@ -44,6 +44,7 @@ fn constants() {
         ("GREATEST_BLOCK", emuko_x64_blocks::GREATEST_BLOCK as u64),
         ("LEAST_BLOCK", emuko_x64_blocks::LEAST_BLOCK as u64),
         ("MOST_STEPS", emuko_x64_blocks::MOST_STEPS.into()),
+        ("MOST_SPAN", emuko_x64_blocks::MOST_SPAN),
     ];
     for (name, number) in constants {
         let line = format!("#define EMUKO_{name} {number}\n");
@@ -80,9 +81,9 @@ macro_rules! layout {
 fn layouts() {
     let text = [
         String::from("#include \"emuko_x64_blocks.h\"\n"),
-        layout!(Reply as "emuko_reply": number first second),
+        layout!(Reply as "emuko_reply": number first second third),
         layout!(BlockResult as "emuko_result": next_pc executed),
-        layout!(NativeBlock as "emuko_native_block": offset count),
+        layout!(NativeBlock as "emuko_native_block": offset count length span),
         layout!(Entry as "emuko_entry": satp pc block in_use),
         layout!(CodeCache as "emuko_code_cache": used),
     ];

@@ -1,6 +1,8 @@
-//! The index of blocks: what request Q-4 says, one by one, with what comes out by hand.
+//! The index of blocks: what request Q-4 says, one by one, with what comes out by hand. What a write drops stands in module drops.
 
-use crate::archive::{emuko_index_empty, emuko_index_find, emuko_index_insert, CodeCache};
+use crate::archive::{
+    emuko_index_drop, emuko_index_empty, emuko_index_find, emuko_index_insert, CodeCache,
+};
 use emuko_x64_blocks::{BlockIndex, BucketIndex, CodeStore, Entry, InsertRefusal, NativeBlock};
 
 pub type Key = (u64, u64);
@@ -16,8 +18,14 @@ pub const FREE: Entry = Entry {
     in_use: 0,
 };
 
+/// A block with a length and a span of its own; of zeros for zeros.
 pub const fn block(offset: usize, count: u32) -> NativeBlock {
-    NativeBlock { offset, count }
+    NativeBlock {
+        offset,
+        count,
+        length: offset / 2 + count as usize,
+        span: 4 * count as u64,
+    }
 }
 
 /// Marks that are in use, with each byte alone and with the bit that is a sign elsewhere.
@@ -259,14 +267,19 @@ fn replies_of_the_archive() {
     let insert = |key: Key| {
         // SAFETY: As above.
         let reply = unsafe { emuko_index_insert(at, 2, key.0, key.1, block(8, 3)) };
-        [reply.number, reply.first, reply.second]
+        [reply.number, reply.first, reply.second, reply.third]
     };
     assert_eq!(find(A), FREE);
-    assert_eq!([insert(A), insert(B)], [[0, 0, 0], [0, 1, 0]]);
-    assert_eq!([insert(C), insert(B)], [[8, 0, 0], [0, 1, 0]]);
+    assert_eq!([insert(A), insert(B)], [[0, 0, 0, 0], [0, 1, 0, 0]]);
+    assert_eq!([insert(C), insert(B)], [[8, 0, 0, 0], [0, 1, 0, 0]]);
     assert_eq!((find(B), find(C)), (used(B, block(8, 3), 1), FREE));
     let mut cache = CodeCache { used: 9 };
     // SAFETY: As above; the record is no one else's.
     unsafe { emuko_index_empty(at, 2, &mut cache) };
     assert_eq!((cache.used, find(A)), (0, FREE));
+    // SAFETY: As above.
+    let dropped = |address| unsafe { emuko_index_drop(at, 2, address, 4) };
+    assert_eq!([insert(A), insert(B)], [[0, 0, 0, 0], [0, 1, 0, 0]]);
+    assert_eq!([dropped(A.1), dropped(A.1), dropped(B.1)], [1, 0, 1]);
+    assert_eq!((find(A), find(B)), (FREE, FREE));
 }

@@ -1,7 +1,8 @@
-//! The index of blocks at random: histories against a `HashMap`, and slices filled elsewhere against the request's words, for the index
+//! The index of blocks at random: histories against a `HashMap`, and slices filled elsewhere against the requests' words, for the index
 //! that is one scan and for the one in buckets.
 
-use crate::index::{block, freed, used, Key, MARKS, SATP, START};
+use crate::drops::touches;
+use crate::index::{freed, used, Key, MARKS, SATP, START};
 use crate::random::Random;
 use emuko_x64_blocks::{BlockIndex, BucketIndex, CodeStore, Entry, InsertRefusal, NativeBlock};
 use std::collections::HashMap;
@@ -11,10 +12,11 @@ type Store = CodeStore<Vec<u8>>;
 type Reply = Result<usize, InsertRefusal>;
 
 /// What both indices do.
-trait Indexing {
+pub trait Indexing {
     fn find(&self, key: Key) -> Option<Entry>;
     fn insert(&mut self, key: Key, block: NativeBlock) -> Reply;
     fn empty(&mut self, store: &mut Store);
+    fn drop_touched(&mut self, address: u64, n: u64) -> usize;
     fn entries(&self) -> &[Entry];
     /// The indices of the entries that a key can stand in.
     fn range(&self, key: Key) -> Range<usize>;
@@ -33,6 +35,10 @@ macro_rules! indexing {
 
             fn empty(&mut self, store: &mut Store) {
                 $index::empty(self, store);
+            }
+
+            fn drop_touched(&mut self, address: u64, n: u64) -> usize {
+                $index::drop_touched(self, address, n)
             }
 
             fn entries(&self) -> &[Entry] {
@@ -59,9 +65,18 @@ enum Came {
     Replaced,
     Refused,
     Emptied,
+    Dropped,
+    NoneDropped,
 }
 
-type Seen = [u32; 6];
+type Seen = [u32; 8];
+
+fn dropped(number: usize) -> Came {
+    match number {
+        0 => Came::NoneDropped,
+        _ => Came::Dropped,
+    }
+}
 
 /// Up to so many keys, which share their halves with each other.
 fn pool(r: &mut Random, most: usize) -> Vec<Key> {
@@ -80,8 +95,31 @@ fn pool(r: &mut Random, most: usize) -> Vec<Key> {
     (0..number).map(|_| key()).collect()
 }
 
+/// Any numbers, but that most spans are short, so that a write touches some blocks and leaves others.
 fn any_block(r: &mut Random) -> NativeBlock {
-    block(r.u64() as usize, r.u32())
+    let span = match r.below(20) {
+        0 => 0,
+        1 => r.u64(),
+        2..=5 => r.below(300),
+        _ => 1 + r.below(8),
+    };
+    NativeBlock {
+        offset: r.u64() as usize,
+        count: r.u32(),
+        length: r.u64() as usize,
+        span,
+    }
+}
+
+/// Address and number of bytes of a write, mostly close to a key's pc.
+fn write(r: &mut Random, key: Key) -> (u64, u64) {
+    let address = match r.below(10) {
+        0 => r.u64(),
+        1 => key.1.wrapping_add(r.below(300)).wrapping_sub(150),
+        _ => key.1.wrapping_add(r.below(8)).wrapping_sub(4),
+    };
+    let any = r.u64();
+    (address, r.one_of(&[0, 1, 1, 2, 4, 8, 8, any % 100, any]))
 }
 
 /// Entries as anyone may have filled them, so many of a hundred in use.
@@ -157,6 +195,24 @@ impl History {
         Came::Emptied
     }
 
+    /// What is dropped is no more in the map than in the entries, of which nothing but marks has changed.
+    fn drop_touched(&mut self, r: &mut Random, key: Key) -> Came {
+        let (address, n) = write(r, key);
+        let went = |key: &Key, block: &NativeBlock| touches(key.1, block.span, address, n);
+        let leave = |e: &Entry| match went(&(e.satp, e.pc), &e.block) {
+            true => freed(*e),
+            false => *e,
+        };
+        let left: Vec<Entry> = self.index.entries().iter().map(leave).collect();
+        let (before, mark) = (self.map.len(), self.store.mark());
+        self.map.retain(|key, block| !went(key, block));
+        let number = before - self.map.len();
+        assert_eq!(self.index.drop_touched(address, n), number);
+        assert_eq!(self.index.entries(), left);
+        assert_eq!(self.store.mark(), mark);
+        dropped(number)
+    }
+
     /// Operations with these keys; then each of them is looked for.
     fn run(&mut self, r: &mut Random, keys: &[Key], seen: &mut Seen) {
         let emptying = r.one_of(&[0, 1, 5]);
@@ -165,6 +221,7 @@ impl History {
             let came = match r.below(100) {
                 chance if chance < emptying => self.empty(),
                 chance if chance < 40 => self.find(key),
+                chance if chance < 50 => self.drop_touched(r, key),
                 _ => self.insert(r, key),
             };
             seen[came as usize] += 1;
@@ -190,6 +247,7 @@ fn histories(seed: u64, made: impl Fn(usize, Vec<Entry>) -> Box<dyn Indexing>) {
         let mut history = History::new(made(size, lent));
         history.run(&mut r, &keys, &mut seen);
     }
+    println!("{seen:?}");
     assert!(seen.iter().sum::<u32>() > 300_000, "{seen:?}");
     assert!(seen.iter().all(|n| *n > 4_000), "{seen:?}");
 }
@@ -206,7 +264,7 @@ fn histories_of_buckets() {
     });
 }
 
-/// The request's words about a slice, as plainly as they can be written.
+/// The requests' words about a slice, as plainly as they can be written.
 mod request {
     use super::*;
 
@@ -228,9 +286,20 @@ mod request {
         entries[at] = used(key, block, 1);
         Ok(at)
     }
+
+    pub fn drop_touched(entries: &mut [Entry], address: u64, n: u64) -> usize {
+        let mut number = 0;
+        for entry in entries {
+            if entry.in_use != 0 && touches(entry.pc, entry.block.span, address, n) {
+                entry.in_use = 0;
+                number += 1;
+            }
+        }
+        number
+    }
 }
 
-/// One operation on an index and, by the request's words, on the entries that it must then have.
+/// One operation on an index and, by the requests' words, on the entries that it must then have.
 fn operation(r: &mut Random, index: &mut dyn Indexing, expected: &mut [Entry], key: Key) -> Came {
     let range = index.range(key);
     let start = range.start;
@@ -243,9 +312,16 @@ fn operation(r: &mut Random, index: &mut dyn Indexing, expected: &mut [Entry], k
             assert_eq!(store.mark(), 0);
             Came::Emptied
         }
-        1..=7 => {
+        1..=6 => {
             assert_eq!(index.find(key), shown, "{key:x?}");
             shown.map_or(Came::None, |_| Came::Found)
+        }
+        // In all entries, also of an index in buckets.
+        7..=9 => {
+            let (address, n) = write(r, key);
+            let number = request::drop_touched(expected, address, n);
+            assert_eq!(index.drop_touched(address, n), number);
+            dropped(number)
         }
         _ => {
             let block = any_block(r);
@@ -283,6 +359,7 @@ fn slices(seed: u64, made: impl Fn(usize, &mut [Entry]) -> Box<dyn Indexing + '_
         drop(index);
         assert!(buffer == expected);
     }
+    println!("{seen:?}");
     assert_eq!(seen.iter().sum::<u32>(), 300_000);
     assert!(seen.iter().all(|n| *n > 4_000), "{seen:?}");
 }

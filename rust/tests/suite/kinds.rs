@@ -153,7 +153,8 @@ fn all_halfwords() {
                     reply,
                     Ok(Size {
                         length: 88,
-                        count: 1
+                        count: 1,
+                        span: 2
                     })
                 );
                 blocks += 1;

@@ -6,8 +6,9 @@
 
 use crate::fence_i::{cut, limit_to_fence_i, words_to_fence_i};
 use crate::random::Random;
-use crate::requests;
+use crate::requests::{self, Wanted};
 use crate::rest_of_m::{first_of_the_rest, judged, put_bodies, with_stand_ins};
+use crate::spans;
 use crate::words;
 use emuko_original::{Access, Answer, Compiled, Emuko, Linked, Memory, Original, CODE_SIZE};
 use std::fs;
@@ -150,29 +151,11 @@ fn changes<'a>(before: &'a Memory, after: &'a Memory) -> impl Iterator<Item = (u
 
 /// The reply of the corpus for a line: document 01's numbers and values.
 fn corpus_reply(line: &str, both: &mut Both) -> String {
+    if let Some(wanted) = Wanted::of_line(line) {
+        return corpus_translation(&wanted, both);
+    }
     let fields: Vec<&str> = line.split(' ').collect();
-    let hex = |field: &str| u64::from_str_radix(field, 16).unwrap();
     match fields[..] {
-        ["T", start, limit, helper16, helper_mem, output, run] => {
-            let run: Vec<u16> = match run {
-                "-" => Vec::new(),
-                _ => run.split(',').map(|field| hex(field) as u16).collect(),
-            };
-            let helpers = [hex(helper16), hex(helper_mem)];
-            let (answer, bytes) = both.translate(hex(start), limit.parse().unwrap(), &run, helpers);
-            match answer {
-                // emuko has no lent output; document 01 adds number 5.
-                Answer::Block(_) if output.parse::<usize>().unwrap() < 4099 => "5".to_string(),
-                Answer::Block(count) => {
-                    let text: String = bytes.iter().map(|byte| format!("{byte:02x}")).collect();
-                    format!("block {} {count} {text}", bytes.len())
-                }
-                Answer::LimitZero => "1".to_string(),
-                Answer::OddStart(start) => format!("2 {start:016x}"),
-                Answer::Missing(index) => format!("3 {index}"),
-                Answer::NotTaken(word) => format!("4 {word:08x}"),
-            }
-        }
         ["P", used, store, code] => {
             let number = |field: &str| field.parse::<usize>().unwrap();
             let (used, mut store) = (number(used), vec![0; number(store)]);
@@ -185,12 +168,32 @@ fn corpus_reply(line: &str, both: &mut Both) -> String {
                 None => "7".to_string(),
             }
         }
-        ["D", word] => Linked::decode(hex(word) as u32),
+        ["D", word] => Linked::decode(u32::from_str_radix(word, 16).unwrap()),
         _ => panic!("{line}"),
     }
 }
 
-/// The 3,400 requests that came with the original, and 245 more, which the program replay is run on too; behind them stand lines that are
+fn corpus_translation(wanted: &Wanted, both: &mut Both) -> String {
+    let request = wanted.request();
+    let helpers = [request.helpers.halfword, request.helpers.memory];
+    let (answer, bytes) = both.translate(request.start, request.limit, request.halfwords, helpers);
+    match answer {
+        // emuko has no lent output; document 01 adds number 5.
+        Answer::Block(_) if wanted.output < 4099 => "5".to_string(),
+        Answer::Block(count) => {
+            let text: String = bytes.iter().map(|byte| format!("{byte:02x}")).collect();
+            // emuko has no span; request Q-5 adds it.
+            let span = spans::of(request.halfwords, count);
+            format!("block {} {count} {text} {span}", bytes.len())
+        }
+        Answer::LimitZero => "1".to_string(),
+        Answer::OddStart(start) => format!("2 {start:016x}"),
+        Answer::Missing(index) => format!("3 {index}"),
+        Answer::NotTaken(word) => format!("4 {word:08x}"),
+    }
+}
+
+/// The 3,400 requests that came with the original, and 258 more, which the program replay is run on too; behind them stand lines that are
 /// no requests.
 #[test]
 fn corpus() {
@@ -204,7 +207,7 @@ fn corpus() {
         assert_eq!(corpus_reply(request, &mut both), reply, "{request}");
         kinds["TPD".find(&request[..1]).unwrap()] += 1;
     }
-    assert_eq!(kinds, [3384, 201, 60]);
+    assert_eq!(kinds, [3397, 201, 60]);
 }
 
 #[test]

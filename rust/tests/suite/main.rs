@@ -1,6 +1,6 @@
 //! One program of tests: the crate against the original Rust, emuko linked with it against the original emulator, blocks entered on this
-//! processor against an interpreter of the RISC-V manual, document 01's cases, the index of blocks, the C header, README's lines and what
-//! the papers say of the repository. Seeds are fixed.
+//! processor against an interpreter of the RISC-V manual, document 01's cases, the index of blocks, what a write drops of it, blocks kept
+//! while code changes, the C header, README's lines and what the papers say of the repository. Seeds are fixed.
 
 // What the archive's declarations name.
 use emuko_x64_blocks::{Entry, NativeBlock};
@@ -11,6 +11,7 @@ mod against_original;
 mod archive;
 mod buckets;
 mod cases;
+mod drops;
 #[cfg(all(target_arch = "x86_64", target_os = "linux"))]
 mod entered;
 #[cfg(all(target_arch = "x86_64", target_os = "linux"))]
@@ -19,6 +20,9 @@ mod fence_i;
 mod in_c;
 mod index;
 mod index_random;
+#[cfg(all(target_arch = "x86_64", target_os = "linux"))]
+#[cfg(all(target_arch = "x86_64", target_os = "linux"))]
+mod kept;
 mod kinds;
 mod linked;
 #[cfg(all(target_arch = "x86_64", target_os = "linux"))]
@@ -32,4 +36,5 @@ mod readme;
 mod requests;
 mod rest_of_m;
 mod run;
+mod spans;
 mod words;

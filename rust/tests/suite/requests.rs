@@ -15,6 +15,30 @@ pub struct Wanted {
 }
 
 impl Wanted {
+    /// A translation that a line of the corpus asks for: T, start, limit, the helpers, the output's length, the run.
+    pub fn of_line(line: &str) -> Option<Self> {
+        let fields: Vec<&str> = line.split(' ').collect();
+        let ["T", start, limit, helper16, helper_mem, output, run] = fields[..] else {
+            return None;
+        };
+        let hex = |field: &str| u64::from_str_radix(field, 16).ok();
+        let halfwords = match run {
+            "-" => Some(Vec::new()),
+            _ => run.split(',').map(|half| Some(hex(half)? as u16)).collect(),
+        };
+        Some(Wanted {
+            start: hex(start)?,
+            limit: limit.parse().ok()?,
+            halfwords: halfwords?,
+            skipped: 0,
+            helpers: Helpers {
+                halfword: hex(helper16)?,
+                memory: hex(helper_mem)?,
+            },
+            output: output.parse().ok()?,
+        })
+    }
+
     pub fn request(&self) -> Request<'_> {
         Request::new(self.start, &self.halfwords[self.skipped..])
             .limit(self.limit)
