@@ -14,7 +14,7 @@ use Rattle.block.specs.declared.Refusal.TheVariants.{LimitZero, OddStart, Missin
 use Rattle.block.proofs.CallerReadsReply.{reads}
 
 -- an answer for each reply
-abbrev answer_to : Reply → Answer
+abbrev pub answer_to : Reply → Answer
 answer_to (block b) = Ok (record { length = length b.code; count = b.count; span = b.span })
 answer_to (refusal limit_zero) = Err LimitZero
 answer_to (refusal (odd_start start)) = Err (OddStart start)
@@ -22,7 +22,7 @@ answer_to (refusal (missing index)) = Err (Missing index)
 answer_to (refusal (not_taken word)) = Err (NotTaken word)
 answer_to (refusal output_short) = Err OutputShort
 
-answers : (p : Reply) (l : List ℕ) → Answers p l (output_after p l) (answer_to p)
+pub answers : (p : Reply) (l : List ℕ) → Answers p l (output_after p l) (answer_to p)
 unfolding numbered
 answers (block b) l = record { answers = refl; leaves = refl }
 answers (refusal limit_zero) l = record { answers = refl; leaves = refl }

@@ -3,6 +3,7 @@ use Rattle.std.specs.Prelude.{Some, slice_get}
 use Rattle.std.specs.List as Lists
 use Rattle.std.proofs.Common.{◌≡◌, refl, sym, ap, ◌∙◌, subst, Bool, true, false, cond, List, [], ◌∷◌, ℕ, suc, ◌*◌, ◌≤◌, arith}
 use Rattle.agreement.specs.Translation.Replies.{Block, Reply, Reply.block, Reply.refusal}
+use Rattle.agreement.specs.Statement.Premises.{Unchanged}
 use Rattle.agreement.specs.Statement.Kept.{Kept, Current}
 use Rattle.agreement.specs.Statement.Machine.{reply}
 use Rattle.entry.specs.Index.{key_of, holds}
@@ -11,7 +12,7 @@ use Rattle.entry.specs.declared.Entry.{Entry}
 use Rattle.entry.specs.declared.NativeBlock.{NativeBlock}
 use Rattle.entry.proofs.LastShown.{held}
 use Rattle.coherence.specs.Keeping.{Codes, Request, reply_to, Operation, codes_after, after, IsCurrent}
-use Rattle.coherence.specs.Entering.{Enters, FoundMayBeEntered}
+use Rattle.coherence.specs.Entering.{AskedOfCode, Enters, FoundMayBeEntered}
 use Rattle.coherence.proofs.Kept.{keeps_spans}
 
 record FoundIn (p : Entry → Bool) (es : List Entry) (e : Entry) : Type 0 where
@@ -38,6 +39,9 @@ module _ (cs : Codes) (operations : List Operation) (e : Entry) (c : IsCurrent c
       let same : ◌≡◌ {A = Reply} (block c.b) (block b) = sym c.made ∙ sym (entered_reply c.request (codes_after cs c.earlier) (codes_after cs operations) k h) ∙ m in
       cc
 
+  as_it_was : Unchanged k.turn c.request.pc
+  as_it_was = rw (h.made, h.code, h.reach) refl
+
   may_enter : e.block.span ≤ 2 * k.reach → Current k c.request.pc
   may_enter reach = record {
     spanned = λ b m.
@@ -63,5 +67,5 @@ found_may_be_entered es cs operations n w j e f =
       current = c;
       under = sym (ap (λ (x : Key). x.satp) c.has_key) ∙ ap (λ (x : Key). x.satp) key;
       at = pc;
-      enters = λ k h reach. subst (λ (x : ℕ). Current k x) pc (may_enter cs operations e c k h reach);
+      enters = λ k h reach. subst (AskedOfCode k) pc (record { made = as_it_was cs operations e c k h; now = may_enter cs operations e c k h reach });
     }

@@ -8,11 +8,12 @@ use Rattle.block.specs.declared.Block as Rust
 use Rattle.block.specs.declared.Refusal.{Refusal}
 use Rattle.block.specs.declared.Refusal.TheVariants.{LimitZero, OddStart, Missing, NotTaken, OutputShort}
 use Rattle.block.proofs.CallerReadsReply.{reads}
-use Rattle.entry.specs.Index.{drop_touched, empty, insert}
+use Rattle.entry.specs.Index.{drop_touched, empty, find, insert}
 use Rattle.entry.specs.declared.Entry.{Entry}
 use Rattle.coherence.specs.Keeping.{Codes, Request, reply_to, run_for, key, Operation, codes_after, inserted, after, AllCurrent}
-use Rattle.coherence.specs.KeepingInCode.{Calls, native_of, Leads, KeepsSpansInCode}
+use Rattle.coherence.specs.KeepingInCode.{Calls, native_of, Leads, KeepsSpansInCode, FoundMayBeEnteredInCode}
 use Rattle.coherence.proofs.Kept.{keeps_spans}
+use Rattle.coherence.proofs.Found.{found_may_be_entered}
 
 module _ (q : Request) (cs : Codes) where
   -- what is read off the answer is the definition's reply
@@ -35,7 +36,7 @@ module _ (q : Request) (cs : Codes) where
   none_inserted (NotTaken w) c es = ap (inserted es q) (replied _ c)
   none_inserted OutputShort c es = ap (inserted es q) (replied _ c)
 
-led : (es : List Entry) (cs : Codes) (operations : List Operation) (xs : List Entry) → Leads es cs operations xs → xs ≡ after es cs operations
+pub led : (es : List Entry) (cs : Codes) (operations : List Operation) (xs : List Entry) → Leads es cs operations xs → xs ≡ after es cs operations
 led es cs operations xs Leads.begin = refl
 led es cs operations ys (Leads.insert {operations = earlier} {xs = xs} {q = q} {b = b} l c i) =
     i.leaves ∙ sym (same_block q (codes_after cs earlier) b c xs)
@@ -50,3 +51,7 @@ led es cs operations ys (Leads.empty {operations = earlier} {xs = xs} l d) = d.l
 pub keeps_spans_in_code : KeepsSpansInCode
 keeps_spans_in_code es xs cs operations n w l =
     subst (AllCurrent cs operations) (sym (led es cs operations xs l)) (keeps_spans es cs operations n w)
+
+pub found_may_be_entered_in_code : FoundMayBeEnteredInCode
+found_may_be_entered_in_code es xs cs operations n w l j e f =
+    found_may_be_entered es cs operations n w j e (sym (f ∙ ap (λ (zs : List Entry). find zs j) (led es cs operations xs l)))

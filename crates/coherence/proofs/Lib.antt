@@ -1,4 +1,5 @@
 pub mod Kept
-pub mod KeptInCode
 pub mod Found
+pub mod KeptInCode
+pub mod Reached
 pub mod Example

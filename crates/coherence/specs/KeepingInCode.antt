@@ -1,17 +1,19 @@
 -- The same of the code: entries that calls of `translate`, `insert`, `drop_touched` and `empty` have left. `Keeping` takes what they
 -- answer and leave from the definitions; here it is what their contracts allow, and nothing else is known of it.
-use Rattle.std.specs.Prelude.{◌≡◌, false, List, [], ◌∷◌, ℕ, length, Result, Ok, Err}
+use Rattle.std.specs.Prelude.{◌≡◌, false, List, [], ◌∷◌, ℕ, length, Some, Result, Ok, Err}
 use Rattle.std.specs.List.{list_any}
 use Rattle.block.specs.Answers.{Answer, Translates}
 use Rattle.block.specs.declared.Block as Rust
 use Rattle.block.specs.declared.Refusal.{Refusal}
 use Rattle.entry.specs.Index.{is_in_use}
 use Rattle.entry.specs.declared.Entry.{Entry}
+use Rattle.entry.specs.declared.Key.{Key}
 use Rattle.entry.specs.declared.NativeBlock.{NativeBlock}
-use Rattle.index.specs.Answers.{Inserts, Empties, Drops}
+use Rattle.index.specs.Answers.{Finds, Inserts, Empties, Drops}
 use Rattle.index.specs.declared.Full.{Full}
 use Rattle.coherence.specs.Keeping.{Codes, Request, run_for, key, Operation, Operation.translates, Operation.writes, Operation.empties}
 use Rattle.coherence.specs.Keeping.{codes_after, OnlyWrites, AllCurrent}
+use Rattle.coherence.specs.Entering.{MayBeEntered}
 
 -- a call of `translate` for a request answers r, with an output of so many bytes
 abbrev pub Calls : Request → Codes → Answer → Type 0
@@ -38,3 +40,9 @@ pub data Leads (es : List Entry) (cs : Codes) : List Operation → List Entry �
 abbrev pub KeepsSpansInCode : Type 0
 KeepsSpansInCode = (es xs : List Entry) (cs : Codes) (operations : List Operation) → list_any is_in_use es ≡ false → OnlyWrites cs operations
     → Leads es cs operations xs → AllCurrent cs operations xs
+
+-- and what a call of `find` answers may be entered
+abbrev pub FoundMayBeEnteredInCode : Type 0
+FoundMayBeEnteredInCode = (es xs : List Entry) (cs : Codes) (operations : List Operation) → list_any is_in_use es ≡ false
+    → OnlyWrites cs operations → Leads es cs operations xs
+    → (j : Key) (e : Entry) → Finds xs j (Some e) → MayBeEntered cs operations j e

@@ -1,4 +1,4 @@
-// An entry of the index of blocks (document 02, Q-4). What an index does with entries stands in specs/, apart from the code.
+// An entry of the index of blocks (document 02, Q-4 and Q-5). What an index does with entries stands in specs/, apart from the code.
 #![tactic(auto)]
 
 ghost use Rattle.std.specs.Prelude.{◌≡◌};
@@ -22,7 +22,8 @@ pub struct NativeBlock {
     pub span: u64,
 }
 
-// A block under its key, whose parts C reads. The mark is a number, so that whatever a caller of another language puts there is one: 0 is not in use.
+// A block under its key, whose parts C reads. The mark is a number, so that whatever a caller of another language puts there is one: 0 is
+// not in use.
 #[repr(C)]
 #[derive(Clone, Copy)]
 pub struct Entry {

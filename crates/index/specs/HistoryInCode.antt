@@ -1,5 +1,5 @@
--- The history, of the code: entries that calls of `insert`, `empty` and `drop_touched` have left one after the other. `History` (crate entry) takes what a
--- call answers and leaves from the definition; here it is what the contracts allow, and nothing else is known of it.
+-- The history, of the code: entries that calls of `insert`, `empty` and `drop_touched` have left one after the other. `History` (crate
+-- entry) takes what a call answers and leaves from the definition; here it is what the contracts allow, and nothing else is known of it.
 use Rattle.std.specs.Prelude.{◌≡◌, false, List, [], ◌∷◌, ℕ, Option, Result}
 use Rattle.std.specs.List.{list_any}
 use Rattle.entry.specs.Index.{is_in_use}

@@ -56,8 +56,8 @@ impl Table {
         }
     }
 
-    // The first n entries take the block, or are full; the others stay. Here, in `empty` and in `drop_touched` the array is copied and stored back: where the
-    // struct has a ghost field, its array can't be lent from behind a `&mut`.
+    // The first n entries take the block, or are full; the others stay. Here, in `empty` and in `drop_touched` the array is copied and
+    // stored back: where the struct has a ghost field, its array can't be lent from behind a `&mut`.
     pub fn insert(&mut self, key: Key, block: NativeBlock) -> Result<usize, Full>
         ensures { AtFront self.old self.new (λ es es'. Inserts es es' key block result) }
     {

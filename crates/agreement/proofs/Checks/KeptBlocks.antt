@@ -1,6 +1,6 @@
 -- Blocks that are kept while the code behind what they span changes: the theorem on kept blocks is applied to two turns whose code has
--- changed, so that the premise of the agreement is not met by the code as it is now.
-use Rattle.std.proofs.Common.{false, List, [], ◌∷◌, ◌++◌, ◌∙◌, ◌≡◌, ap, refl, subst, sym, ◌<◌, ◌^◌, ℕ, zero, suc, arith}
+-- changed, so that the premise of the agreement is not met by the code as it is now, and to one that is refused.
+use Rattle.std.proofs.Common.{false, true, List, [], ◌∷◌, ◌++◌, ◌∙◌, ◌≡◌, ap, refl, subst, sym, ◌<◌, ◌^◌, ℕ, zero, suc, arith}
 use Rattle.agreement.specs.Common.{Helper.for_halfword}
 use Rattle.agreement.specs.Riscv.Code.{Code, SameIn, run_at}
 use Rattle.agreement.specs.Riscv.Instruction.{value_op_imm}
@@ -8,7 +8,7 @@ use Rattle.agreement.specs.Riscv.Immediates as Manual
 use Rattle.agreement.specs.Riscv.Run.{GuestState, Read, read_turn, Stop.called, Stop.plain, manual, turn, write_x}
 use Rattle.agreement.specs.Translation.Replies.{Block, Reply, Reply.block, Reply.refusal}
 use Rattle.agreement.specs.Statement.Agreement.{Along, At, feed, feed_of, is_refused, start}
-use Rattle.agreement.specs.Statement.Kept.{Kept, turns, Current, CurrentAlong, AgreesNow, AgreementOfKept, AlongNow, ReadsAlike, feed_now, feeds_now}
+use Rattle.agreement.specs.Statement.Kept.{Kept, turns, Current, CurrentAlong, AgreesNow, AgreementOfKept, AlongNow, ReadsAlike, refuses_now, feed_now, feeds_now}
 use Rattle.agreement.specs.Statement.Machine.{Event, Event.rejected, Event.visited, History, History.end, History.then, RegisterBytes, Turn, Turned, reply}
 use Rattle.agreement.specs.Statement.Premises.{Enterable, Premises, Unchanged}
 use Rattle.agreement.specs.X86.Memory.{read}
@@ -20,16 +20,16 @@ use Rattle.agreement.proofs.Checks.ExampleStates.{reads_a_turn}
 use Rattle.agreement.proofs.Checks.PremisesMet.{Allowed, turn_of_meets}
 use Rattle.agreement.proofs.Laws.Runs.{held}
 use Rattle.agreement.proofs.Theorem.AlongTheRun.{MeetsAt}
-use Rattle.agreement.proofs.Theorem.Consequences.{WentHelped, WentPlainly, after_helper, after_helper_lem, after_plain, after_plain_lem, read_as}
+use Rattle.agreement.proofs.Theorem.Consequences.{WentHelped, WentPlainly, after_helper, after_helper_lem, after_plain, after_plain_lem, after_refused, read_as}
 use Rattle.agreement.proofs.Theorem.Determined.{turned_once}
 use Rattle.agreement.proofs.Theorem.Kept.{agreement_of_kept}
 use Rattle.agreement.proofs.Theorem.TurnByTurn.{Led, SlotsAre, led}
 use Rattle.agreement.proofs.Checks.StaleBlock.{recoded}
 
--- 1. The guest: the code as it is now at 0x80000000 is ADDI x1, x0, 5; C.LI x10, 0; ADDI x1, x0, 7
+-- 1. The guest: the code as it is now at 0x80000000 is ADDI x1, x0, 5; C.LI x10, 0; a word that is not taken
 
 abbrev now : Code
-now = held 0x80000000 (words (0x00500093 ∷ []) ++ 0x4501 ∷ words (0x00700093 ∷ []))
+now = held 0x80000000 (words (0x00500093 ∷ []) ++ 0x4501 ∷ words (0x4020C1B3 ∷ []))
 
 -- when the first block was made, a word that is not taken stood behind its ADDI, and ended it
 abbrev first_code : Code
@@ -45,14 +45,24 @@ second_code = held 0x80000004 (0x4501 ∷ 0xFFFF ∷ [])
 abbrev second_turn : Turn
 second_turn = turn_of 0x30008 second_code (0x4501 ∷ 0xFFFF ∷ []) (leaves 10 9 0x80000006 1)
 
+-- the last word, refused before the code in front of it was this
+abbrev third_code : Code
+third_code = held 0x80000006 (words (0x4020C1B3 ∷ []))
+
+abbrev third_turn : Turn
+third_turn = turn_of 0x30008 third_code (words (0x4020C1B3 ∷ [])) (leaves 1 0 0 0)
+
 abbrev first_kept : Kept
 first_kept = record { turn = first_turn; now = now; reach = 2 }
 
 abbrev second_kept : Kept
 second_kept = record { turn = second_turn; now = now; reach = 64 }
 
-abbrev two_kept : List Kept
-two_kept = first_kept ∷ second_kept ∷ []
+abbrev third_kept : Kept
+third_kept = record { turn = third_turn; now = now; reach = 2 }
+
+abbrev three_kept : List Kept
+three_kept = first_kept ∷ second_kept ∷ third_kept ∷ []
 
 -- the agreement itself says nothing of them
 first_changed : Unchanged (recoded first_turn now 4) 0x80000000 → ⊥
@@ -93,7 +103,7 @@ met_now (k ∷ ks) m rb low sl z h = ((a.typed, a.unchanged, enter, λ e pc' rb'
         let p : Asked l.pc' l.rb' ks = subst (λ (x : ℕ). Asked x l.rb' ks) (sym l.pcs) (f l.m2 l.rb' l.low l.slots l.x0 n) in
         subst (λ (x : RegisterBytes). Asked pc' x ks) q.bytes (subst (λ (x : ℕ). Asked x l.rb' ks) q.pcs p)
 
--- a reply's span; none of a refusal, which these turns do not have
+-- a reply's span; none of a refusal, which the first two turns do not have
 abbrev span_of : Reply → ℕ
 span_of (block b) = b.span
 span_of (refusal r) = 0
@@ -137,6 +147,14 @@ second_current = record {
   refused = λ r e. absurd (let z : ◌≡◌ {A = ℕ} 0 1 = cc in omega arith);
 }
 
+third_current : Current third_kept 0x80000006
+unfolding translations words run_at
+third_current = record {
+  spanned = λ b e. absurd (let z : ◌≡◌ {A = ℕ} 0 1 = cc in omega arith);
+  fetched = λ b e. absurd (let z : ◌≡◌ {A = ℕ} 0 1 = cc in omega arith);
+  refused = λ r e. refl;
+}
+
 allowed : Allowed 0x30008
 allowed = record { above = omega arith; fits = omega arith; aligned = refl }
 
@@ -148,12 +166,20 @@ second_meets : MeetsAt second_turn 0x80000004
 second_meets =
     turn_of_meets 0x30008 second_code second_turn.made 10 9 0x80000006 1 0x80000004 allowed (unfold run_at in refl) (omega arith) (omega arith) (omega arith)
 
--- the manual's states: at the start, and after the first turn
+third_meets : MeetsAt third_turn 0x80000006
+third_meets =
+    turn_of_meets 0x30008 third_code third_turn.made 1 0 0 0 0x80000006 allowed
+    (unfold words run_at in refl) (omega arith) (omega arith) (omega arith)
+
+-- the manual's states: at the start, after the first turn, and after the second, whose helper was entered in u
 abbrev n0 : GuestState
 n0 = start 0x80000000 zeros
 
 abbrev n1 : GuestState
 n1 = after_plain first_turn n0
+
+abbrev n2 : State → GuestState
+n2 u = after_helper second_turn u
 
 first_taken : is_refused first_turn n0 ≡ false
 unfolding reads_a_turn
@@ -171,41 +197,63 @@ second_calls : (read_as second_turn n1).stop ≡ called for_halfword 0x4501
 unfolding reads_a_turn
 second_calls = refl
 
-two_met : MetNow n0 two_kept
+third_refused : (u : State) → is_refused third_turn (n2 u) ≡ true
+unfolding reads_a_turn
+third_refused u = refl
+
+three_met : MetNow n0 three_kept
 unfolding MetNow
-two_met = (first_meets, first_current, λ e pc' rb rb' h w. rw (after_plain_lem n0 first_taken first_plain h w).turned (at_second, current_at, λ e pc' rb rb' h w. tt))
+three_met = (first_meets, first_current, λ e pc' rb rb' h w. rw (after_plain_lem n0 first_taken first_plain h w).turned second_met)
   where
+    third_met : (u : State) → MetNow (n2 u) (third_kept ∷ [])
+    third_met u = (unfold leaves in third_meets, unfold leaves in third_current, λ e pc' rb rb' h w. tt)
+
     at_second : MeetsAt second_turn n1.pc
     at_second = unfold reads_a_turn in second_meets
 
     current_at : Current second_kept n1.pc
     current_at = unfold reads_a_turn in second_current
 
-asked : Asked 0x80000000 zeros two_kept
+    second_met : MetNow n1 (second_kept ∷ third_kept ∷ [])
+    second_met = (
+      at_second,
+      current_at,
+      λ e pc' rb rb' h w.
+          let c = after_helper_lem n1 for_halfword 0x4501 second_taken second_calls h w in
+          rw c.turned (third_met c.call.inside),
+    )
+
+asked : Asked 0x80000000 zeros three_kept
 unfolding read
-asked = met_now two_kept n0 zeros (omega arith) (λ r k. refl) refl two_met
+asked = met_now three_kept n0 zeros (omega arith) (λ r k. refl) refl three_met
 
-pub two : AgreesNow 0x80000000 zeros two_kept
-two = by agreement_of_kept
+pub three : AgreesNow 0x80000000 zeros three_kept
+three = by agreement_of_kept
   where
-    by : AgreementOfKept → AgreesNow 0x80000000 zeros two_kept
-    by a = unfold AgreementOfKept in a 0x80000000 zeros two_kept (omega arith) (unfold read in refl) asked.0 asked.1
+    by : AgreementOfKept → AgreesNow 0x80000000 zeros three_kept
+    by a = unfold AgreementOfKept in a 0x80000000 zeros three_kept (omega arith) (unfold read in refl) asked.0 asked.1
 
--- 3. What it says of the code as it is now: x1 becomes 5 and nothing more is read; then the halfword's helper is called, and goes on
+-- 3. What it says of the code as it is now: x1 becomes 5 and nothing more is read; then the halfword's helper is called, and goes on; then
+-- the turn is refused
 
 reads_as : (t : Turn) (e : Event) (m : GuestState) → read_turn (feed t e) m ≡ read_as t m
 unfolding feed feed_of
 reads_as t (rejected pc r) m = refl
 reads_as t (visited pc n v) m = refl
 
-pub record Two (es : List Event) : Type 0 where
+pub record Three (es : List Event) : Type 0 where
   pub e0 : Event
   pub e1 : Event
-  pub events : es ≡ e0 ∷ e1 ∷ []
+  pub e2 : Event
+  pub events : es ≡ e0 ∷ e1 ∷ e2 ∷ []
+  pub inside : State
+  pub first_taken : refuses_now first_kept e0 n0 ≡ false
   pub first_x1 : (read_turn (feed_now first_kept e0) n0).registers 1 ≡ 5
   pub first_pc : (read_turn (feed_now first_kept e0) n0).pc ≡ 0x80000004
-  pub second : (read_turn (feed_now second_kept e1) (turn (feed_now first_kept e0) n0)).stop ≡ called for_halfword 0x4501
-  pub pc : (manual (feeds_now two_kept es) n0).pc ≡ 0x80000006
+  pub second_taken : refuses_now second_kept e1 n1 ≡ false
+  pub second_stop : (read_turn (feed_now second_kept e1) n1).stop ≡ called for_halfword 0x4501
+  pub third_refused : refuses_now third_kept e2 (n2 inside) ≡ true
+  pub pc : (manual (feeds_now three_kept es) n0).pc ≡ 0x80000006
 
 first_reads : (read_as first_turn n0).registers 1 ≡ 5
 unfolding reads_a_turn value_op_imm Manual.sign_extend write_x read
@@ -215,16 +263,17 @@ first_ends : (read_as first_turn n0).pc ≡ 0x80000004
 unfolding reads_a_turn
 first_ends = refl
 
-helper_pc : (u : State) → (after_helper second_turn u).pc ≡ 0x80000006
+helper_pc : (u : State) → (n2 u).pc ≡ 0x80000006
 unfolding leaves
 helper_pc u = refl
 
-two_turns : (es : List Event) {pc' : ℕ} {rb' : RegisterBytes} → History 0x80000000 zeros (turns two_kept) es pc' rb'
-    → Along n0 (turns two_kept) es → AlongNow n0 two_kept es → Two es
+three_turns : (es : List Event) {pc' : ℕ} {rb' : RegisterBytes} → History 0x80000000 zeros (turns three_kept) es pc' rb'
+    → Along n0 (turns three_kept) es → AlongNow n0 three_kept es → Three es
 unfolding turns Along AlongNow manual feeds_now
-two_turns [] h a n = elim h [ ]
-two_turns (e0 ∷ []) (then h hs) a n = elim hs [ ]
-two_turns (e0 ∷ e1 ∷ es) (then h (then h1 hs)) a n = says es hs
+three_turns [] h a n = elim h [ ]
+three_turns (e0 ∷ []) (then h hs) a n = elim hs [ ]
+three_turns (e0 ∷ e1 ∷ []) (then h (then h1 hs)) a n = elim hs [ ]
+three_turns (e0 ∷ e1 ∷ e2 ∷ es) (then h (then h1 (then h2 hs))) a n = says es hs
   where
     w0 : WentPlainly n0 first_turn e0
     w0 = after_plain_lem n0 first_taken first_plain h a.0
@@ -232,32 +281,54 @@ two_turns (e0 ∷ e1 ∷ es) (then h (then h1 hs)) a n = says es hs
     w1 : WentHelped n1 second_turn e1
     w1 = after_helper_lem n1 for_halfword 0x4501 second_taken second_calls h1 (rw w0.turned at a.1.0)
 
+    u : State
+    u = w1.call.inside
+
     at_n1 : turn (feed_now first_kept e0) n0 ≡ n1
     at_n1 = n.0.goes ∙ w0.turned
 
     now1 : ReadsAlike second_kept e1 n1
     now1 = rw at_n1 at n.1.0
 
+    at_n2 : turn (feed_now second_kept e1) (turn (feed_now first_kept e0) n0) ≡ n2 u
+    at_n2 = rw at_n1 (now1.goes ∙ w1.turned)
+
+    now2 : ReadsAlike third_kept e2 (n2 u)
+    now2 = rw at_n2 at n.1.1.0
+
+    third_at : At (n2 u) third_turn e2
+    third_at =
+        let e : turn (feed second_turn e1) (turn (feed first_turn e0) n0) ≡ n2 u = rw w0.turned w1.turned in rw e at a.1.1.0
+
+    at_end : turn (feed_now third_kept e2) (turn (feed_now second_kept e1) (turn (feed_now first_kept e0) n0)) ≡ n2 u
+    at_end = rw at_n2 (now2.goes ∙ after_refused (n2 u) third_turn e2 (third_refused u) third_at)
+
     first : read_turn (feed_now first_kept e0) n0 ≡ read_as first_turn n0
     first = n.0.reads ∙ reads_as first_turn e0 n0
 
-    at_end : turn (feed_now second_kept e1) (turn (feed_now first_kept e0) n0) ≡ after_helper second_turn w1.call.inside
-    at_end = rw at_n1 (now1.goes ∙ w1.turned)
-
-    says : (es : List Event) {pc pc' : ℕ} {rb rb' : RegisterBytes} → History pc rb [] es pc' rb' → Two (e0 ∷ e1 ∷ es)
+    says : (es : List Event) {pc pc' : ℕ} {rb rb' : RegisterBytes} → History pc rb [] es pc' rb' → Three (e0 ∷ e1 ∷ e2 ∷ es)
     says [] end = record {
       e0 = e0;
       e1 = e1;
+      e2 = e2;
       events = refl;
+      inside = u;
+      first_taken = n.0.refuses ∙ first_taken;
       first_x1 = ap (λ (q : Read). q.registers 1) first ∙ first_reads;
       first_pc = ap (λ (q : Read). q.pc) first ∙ first_ends;
-      second = rw at_n1 (ap (λ (q : Read). q.stop) (now1.reads ∙ reads_as second_turn e1 n1) ∙ second_calls);
-      pc = ap (λ (m : GuestState). m.pc) at_end ∙ helper_pc w1.call.inside;
+      second_taken = now1.refuses ∙ second_taken;
+      second_stop = ap (λ (q : Read). q.stop) (now1.reads ∙ reads_as second_turn e1 n1) ∙ second_calls;
+      third_refused = now2.refuses ∙ third_refused u;
+      pc = ap (λ (m : GuestState). m.pc) at_end ∙ helper_pc u;
     }
     says (e ∷ es) h = elim h [ ]
 
-pub two_says : Two two.agrees.events
-two_says = two_turns two.agrees.events two.agrees.history two.agrees.along two.along
+pub three_says : Three three.agrees.events
+three_says = three_turns three.agrees.events three.agrees.history three.agrees.along three.along
+
+-- so the machine's own pc at the end is the run's of the code as it is now
+three_end : three.agrees.pc' ≡ 0x80000006
+three_end = three.agrees.at_pc ∙ sym (ap (λ (m : GuestState). m.pc) three.at_end) ∙ three_says.pc
 
 -- the run that is spoken of is of the code as it is now
 reads_now : (k : Kept) (e : Event) → (feed_now k e).code ≡ k.now

@@ -10,8 +10,8 @@ use Rattle.agreement.specs.Translation.Replies.{Block, Refusal, Reply.block, Rep
 use Rattle.agreement.specs.Translation.Walk.{counted}
 use Rattle.agreement.specs.Statement.Machine.{RegisterBytes, Event, Event.rejected, Event.visited, Visit, reply, Turned, Turned.skip, Turned.visit}
 use Rattle.agreement.specs.Statement.Premises.{Premises, Unchanged}
-use Rattle.agreement.specs.Statement.Agreement.{left_by, feed, feed_of, feeds, start}
-use Rattle.agreement.specs.Statement.Kept.{Kept, turns, Current, CurrentAlong, feed_now, feeds_now, ReadsAlike, AlongNow, AgreementOfKept}
+use Rattle.agreement.specs.Statement.Agreement.{left_by, feed, feed_of, feeds, is_refused, start}
+use Rattle.agreement.specs.Statement.Kept.{Kept, turns, Current, CurrentAlong, feed_now, feeds_now, refuses_now, ReadsAlike, AlongNow, AgreementOfKept}
 use Rattle.agreement.specs.Laws.{Halfwords, Spans, SpansOf}
 use Rattle.agreement.proofs.Laws.Runs.{front_alike}
 use Rattle.agreement.proofs.Laws.Spans.{Spanning, spanning}
@@ -135,8 +135,8 @@ module _ (k : Kept) (m : GuestState) (low : m.pc < 2 ^ 64) (un : Unchanged k.tur
 
   -- what was read of the code of which the block was made is there to be read
   entered : (b : Block) (v : Visit) → reply k.turn m.pc ≡ block b → ReadsAlike k (visited m.pc b.count v) m
-  unfolding feed feed_of feed_now
-  entered b v e = record { reads = reads; goes = same_turn _ _ m (taken_now ∙ sym taken) refl reads }
+  unfolding feed feed_of feed_now refuses_now
+  entered b v e = record { refuses = refuses; reads = reads; goes = same_turn _ _ m refuses refl reads }
     where
       h : Halfwords k.turn.made
       h = made_halfwords k.turn m.pc un
@@ -159,13 +159,17 @@ module _ (k : Kept) (m : GuestState) (low : m.pc < 2 ^ 64) (un : Unchanged k.tur
       taken : refused k.turn.limit m.pc (run_at k.turn.code m.pc k.turn.reach) (length k.turn.output) ≡ false
       taken = rw (← un) (was m.pc k.turn.limit k.turn.made k.turn.helper16 k.turn.helper_mem (length k.turn.output) b e h).accepted
 
+      refuses : refused b.count m.pc hs (length k.turn.output) ≡ is_refused k.turn m
+      refuses = taken_now ∙ sym taken
+
   -- a refused turn reads the code as it is now
   skipped : (r : Refusal) → reply k.turn m.pc ≡ refusal r → ReadsAlike k (rejected m.pc r) m
-  unfolding feed feed_of feed_now left_by
+  unfolding feed feed_of feed_now left_by refuses_now
   skipped r e =
       let same : run_at k.now m.pc k.reach ≡ run_at k.turn.code m.pc k.turn.reach = sym (current.refused r e) ∙ un in
       let reads : read_turn (feed_now k (rejected m.pc r)) m ≡ read_turn (feed k.turn (rejected m.pc r)) m = rw same refl in
-      record { reads = reads; goes = same_turn _ _ m (rw same refl) refl reads }
+      let refuses : refuses_now k (rejected m.pc r) m ≡ is_refused k.turn m = rw same refl in
+      record { refuses = refuses; reads = reads; goes = same_turn _ _ m refuses refl reads }
 
   alike : {ev : Event} {pc' : ℕ} {rb rb' : RegisterBytes} → Turned m.pc rb k.turn ev pc' rb' → ReadsAlike k ev m
   alike (skip {r} e) = skipped r e

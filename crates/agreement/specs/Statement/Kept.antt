@@ -1,15 +1,15 @@
 -- Blocks that are kept while the guest's code changes (document 02, Q-5). Where the code is what it was in the bytes that a block spans,
 -- entering it gives the manual's run of the code as it is now, read for no more instructions than the block counts. What stands behind
 -- its span may have changed, and with it the word at which its translation stopped.
-use Rattle.std.specs.Prelude.{◌≡◌, List, [], ◌∷◌, ℕ, ◌*◌, ◌^◌, ◌≤◌, ◌<◌, length}
+use Rattle.std.specs.Prelude.{◌≡◌, Bool, List, [], ◌∷◌, ℕ, ◌*◌, ◌^◌, ◌≤◌, ◌<◌, length}
 use Rattle.std.proofs.Math.Option.{none}
 use Rattle.agreement.specs.X86.Memory.{read}
 use Rattle.agreement.specs.Riscv.Code.{Code, run_at, SameIn}
-use Rattle.agreement.specs.Riscv.Run.{Feed, GuestState, read_turn, turn, manual}
+use Rattle.agreement.specs.Riscv.Run.{Feed, GuestState, refused, run_of, read_turn, turn, manual}
 use Rattle.agreement.specs.Translation.Replies.{Block, Refusal, Reply.block, Reply.refusal}
 use Rattle.agreement.specs.Statement.Machine.{RegisterBytes, Turn, Event, Event.rejected, Event.visited, reply, Turned}
 use Rattle.agreement.specs.Statement.Premises.{Premises}
-use Rattle.agreement.specs.Statement.Agreement.{left_by, feed, start, after, Agrees}
+use Rattle.agreement.specs.Statement.Agreement.{left_by, feed, start, is_refused, after, Agrees}
 
 -- a turn, its `code` being the guest's code when its block was translated; the code as it is when the block is entered, and how many
 -- halfwords of that can be fetched
@@ -51,7 +51,11 @@ feeds_now (k ∷ ks) (e ∷ es) = feed_now k e ∷ feeds_now ks es
 -- 3. What holds: the turns agree with the manual's run of the code of which their blocks were made, and the run of the code as it is now
 -- reads the same and goes the same way
 
+unfoldable pub refuses_now : Kept → Event → GuestState → Bool
+refuses_now k e m = refused (feed_now k e).limit m.pc (run_of (feed_now k e) m) (feed_now k e).room
+
 pub record ReadsAlike (k : Kept) (e : Event) (m : GuestState) : Type 0 where
+  pub refuses : refuses_now k e m ≡ is_refused k.turn m
   pub reads : read_turn (feed_now k e) m ≡ read_turn (feed k.turn e) m
   pub goes : turn (feed_now k e) m ≡ turn (feed k.turn e) m
 
