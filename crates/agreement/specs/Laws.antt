@@ -1,15 +1,14 @@
 -- Statements that are proved beside the agreement, a theorem of the same name in small letters for each.
-use Rattle.std.specs.Prelude.{◌≡◌, false, cond, List, [], ◌∷◌, ◌++◌, ◌≢◌, ℕ, zero, suc, min, ◌+◌, ◌*◌, ◌%◌, ◌^◌, ◌≤◌, ◌<◌, length, take, drop, ltb, eqb, ℤ, nat_abs, ◌+ℤ◌, ◌*ℤ◌}
+use Rattle.std.specs.Prelude.{◌≡◌, false, List, [], ◌∷◌, ◌++◌, ◌≢◌, ℕ, zero, suc, min, ◌+◌, ◌*◌, ◌%◌, ◌^◌, ◌≤◌, ◌<◌, length, take, drop, ltb, eqb, ℤ, nat_abs, ◌+ℤ◌, ◌*ℤ◌}
 use Rattle.std.proofs.Math.Option.{some}
 use Rattle.std.proofs.Math.IntN.{ℤ.pos}
 use Rattle.std.specs.Int.Signed.{lt_z, non_neg}
 use Rattle.agreement.specs.Common.{greatest, most_steps, Helper.for_access}
 use Rattle.agreement.specs.Riscv.Code.{Code, run_at}
-use Rattle.agreement.specs.Riscv.Fields.{opcode, funct3}
 use Rattle.agreement.specs.Riscv.Immediates as Manual
-use Rattle.agreement.specs.Riscv.Instruction.{Instruction, Instruction.JALR, Instruction.other, signed, shift_right_arithmetic, named}
+use Rattle.agreement.specs.Riscv.Instruction.{Instruction, signed, shift_right_arithmetic}
 use Rattle.agreement.specs.Riscv.Instruction.{bits_of, upper_half, quotient_u, remainder_u, overflows, quotient, remainder}
-use Rattle.agreement.specs.Riscv.Run.{chosen, taken}
+use Rattle.agreement.specs.Riscv.Run.{taken}
 use Rattle.agreement.specs.X86.Form.{Instr, Ok, Shift.sar, Cc.B, Cc.E, Cc.L}
 use Rattle.agreement.specs.X86.Encode.{encode}
 use Rattle.agreement.specs.X86.Decode.{decode, Bytes}
@@ -31,19 +30,10 @@ unfoldable pub Encodes : Type 0
 Encodes = (bs : List ℕ) (i : Instr) (rest : List ℕ)
     → Bytes bs → decode bs ≡ some (i, rest) → (bs ≡ encode i ++ rest) × Ok i
 
--- Which instruction a word is: tests and listing name the same where document 01 chooses it, JALR's funct3 apart.
+-- Which instruction a word is: the tests name what the manual's listing names, where document 01 chooses it, and else none.
 
 unfoldable pub TakenAlike : Type 0
 TakenAlike = (w : ℕ) → kind w ≡ taken w
-
--- but for JALR's row: what the listing names where document 01 chooses it, and else not taken
-pub record NamedAlike (w : ℕ) : Type 0 where
-  pub elsewhere : opcode w ≢ 0x67 → kind w ≡ cond (chosen (named w)) (named w) other
-  pub jalr : opcode w ≡ 0x67 → kind w ≡ JALR
-  pub jalr_named : opcode w ≡ 0x67 → funct3 w ≡ 0 → named w ≡ JALR
-
-unfoldable pub NamesAlike : Type 0
-NamesAlike = (w : ℕ) → NamedAlike w
 
 -- What the number of a word's kind says: how the walk goes on from the word.
 

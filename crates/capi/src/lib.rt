@@ -3,6 +3,7 @@
 
 ghost use Rattle.std.specs.Prelude.{◌≡◌};
 ghost use Rattle.agreement.specs.Translation.Kind.{kind, kind_number};
+ghost use Rattle.agreement.specs.Translation.Replies.{rules};
 ghost use Rattle.block.specs.Answers as Answers;
 ghost use Rattle.store.specs.Places as Places;
 ghost use Rattle.index.specs.Answers as Indexed;
@@ -49,6 +50,16 @@ impl From<Result<Block, Refusal>> for Reply {
             Err(Refusal::OutputShort) => numbers(5, 0, 0, 0),
         }
     }
+}
+
+// Which rules the blocks follow, a number that grows with every change to them (document 02, Q-6). A caller that has an index of blocks made
+// under others, or does not know under which, empties it, once, before its next use: what it finds there may be another block than the one
+// that its run is translated to now, as that of a JALR with a reserved funct3 is.
+#[unsafe(no_mangle)]
+pub extern "C" fn emuko_rules() -> u32
+    ensures { result ≡ rules }
+{
+    6
 }
 
 // block: length, count, span; 1; 2, start; 3, index; 4, word; 5

@@ -61,6 +61,9 @@ pub const F3_REM: u8 = 0b110;
 
 pub const F3_REMU: u8 = 0b111;
 
+// funct3 of JALR. The Rust has no name for it, and does not test it.
+pub const F3_JALR: u8 = 0b000;
+
 // funct3 of BRANCH
 pub const F3_BEQ: u8 = 0b000;
 

@@ -67,7 +67,8 @@ pub fn insert(entries: &mut [Entry], key: Key, block: NativeBlock) -> Result<usi
     Ok(index)
 }
 
-// Every mark is cleared, and the code store's mark returns to 0. The store's bytes are not lent, and stay.
+// Every mark is cleared, and the code store's mark returns to 0. The store's bytes are not lent, and stay. A caller does this, once, to an
+// index whose blocks were made by other rules than today's (`rules`, crate agreement; document 02, Q-6), before its next use.
 pub fn empty(entries: &mut [Entry], cache: &mut NativeCodeCache)
     ensures { Empties entries.old entries.new cache.new.used }
 {

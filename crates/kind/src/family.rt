@@ -27,16 +27,23 @@ const OTHER: u64 = 0x1_0000_0000;
 
 const ANY: u64 = BASE + MULDIV + SUB_SRA + SUB_SRA_MULDIV + OTHER;
 
-// LUI and AUIPC; below, JAL and JALR
+// LUI and AUIPC
 const CONSTANT: Family = Family {
     kind: WordKind::Straight,
     taken: 0xFF * ANY,
     ending: 0,
 };
 
-const JUMP: Family = Family {
+const JAL: Family = Family {
     kind: WordKind::Ending,
     taken: 0xFF * ANY,
+    ending: 0,
+};
+
+// Funct3 0 alone.
+const JALR: Family = Family {
+    kind: WordKind::Ending,
+    taken: 0x01 * ANY,
     ending: 0,
 };
 
@@ -106,8 +113,8 @@ impl Family {
         match opcode {
             isa::OPCODE_LUI => CONSTANT,
             isa::OPCODE_AUIPC => CONSTANT,
-            isa::OPCODE_JAL => JUMP,
-            isa::OPCODE_JALR => JUMP,
+            isa::OPCODE_JAL => JAL,
+            isa::OPCODE_JALR => JALR,
             isa::OPCODE_BRANCH => BRANCH,
             isa::OPCODE_OP_IMM => OP_IMM,
             isa::OPCODE_OP_IMM_32 => OP_IMM_32,

@@ -1,6 +1,6 @@
 // What becomes of a word: document 01, "Words taken". The Rust decides it in the matches of `emit_native_instr_x64` and
 // `emit_native_term_mem_helper_x64`; a caller that fetches a run halfword by halfword asks for the answer alone. Unlike the Rust,
-// FENCE.I ends the block (document 02, Q-1).
+// FENCE.I ends the block (document 02, Q-1), the rest of M is taken (Q-2), and JALR with a reserved funct3 is not (Q-6).
 #![tactic(auto)]
 
 mod family;

@@ -1,4 +1,3 @@
-pub mod Choices
 pub mod FamilyMatches
 pub mod Joined
 pub mod Opcodes

@@ -67,8 +67,12 @@ unfolding kind_of match
 at_jal pc w e = rw (kind_is w, e) (rw (rd_is w, imm_j_is w) refl)
 
 at_jalr : (pc w : ℕ) → w < 2 ^ 32 → opcode w ≡ 0x67 → WordIs pc w
-unfolding kind_of match Decode32.imm32
-at_jalr pc w h e = rw (kind_is w, e) (rw (rd_is w, rs1_is w, imm_i_is w h) refl)
+unfolding kind_of match leftover Decode32.imm32
+at_jalr pc w h e =
+    rw (kind_is w, e)
+    (decide (funct3 w) 0
+    (λ z. rw (z, rd_is w, rs1_is w, imm_i_is w h) refl)
+    (λ n. rw (ne_eqb (funct3 w) 0 n) (left pc w 0x67 e)))
 
 at_branch : (pc w : ℕ) → opcode w ≡ 0x63 → WordIs pc w
 unfolding kind_of match leftover

@@ -159,6 +159,10 @@ op_imm_word k d i = finished (load_reg R10 d.rs1 ∷ []) (op_imm_body k d i) d.r
 abbrev pub branch_word : Instruction → Decoded32 → ℕ → ℕ → Word
 branch_word k d next target = behind (compare d.rs1 d.rs2) (branch_body k next target)
 
+-- JALR; its other funct3 are reserved
+abbrev pub jalr_word : Decoded32 → ℕ → ℕ → Word
+jalr_word d i link = cond (d.funct3 == 0) (ends (code_jalr d.rd d.rs1 i link)) (not_emitted [])
+
 -- MISC-MEM
 abbrev pub fence_word : Instruction → Word
 fence_word k = by_family (λ _. not_emitted []) (λ _. not_emitted []) (λ _. not_emitted []) (goes_on []) (stops_behind []) k
@@ -169,7 +173,7 @@ word_by pc w d =
     cond (d.opcode == 0x37) (goes_on (code_const d.rd (Manual.imm_u w))) (
     cond (d.opcode == 0x17) (goes_on (code_const d.rd (wrapping_add pc (Manual.imm_u w)))) (
     cond (d.opcode == 0x6F) (ends (code_jal d.rd (wrapping_add pc 4) (wrapping_add pc (Manual.imm_j w)))) (
-    cond (d.opcode == 0x67) (ends (code_jalr d.rd d.rs1 (Manual.imm_i w % 2 ^ 32) (wrapping_add pc 4))) (
+    cond (d.opcode == 0x67) (jalr_word d (Manual.imm_i w % 2 ^ 32) (wrapping_add pc 4)) (
     cond (d.opcode == 0x63) (branch_word (kind_branch d.funct3) d (wrapping_add pc 4) (wrapping_add pc (Manual.imm_b w))) (
     cond (d.opcode == 0x13) (op_imm_word (kind_op_imm d.funct3 (d.imm12 / 64)) d (Manual.imm_i w % 2 ^ 32)) (
     cond (d.opcode == 0x1B) (op_imm_word (kind_op_imm32 d.funct3 d.funct7) d (Manual.imm_i w % 2 ^ 32)) (

@@ -5,7 +5,7 @@ ghost use Rattle.agreement.specs.Translation.Kind.{kind_branch};
 ghost use Rattle.agreement.specs.Translation.Emit.{code_jal, code_jalr, compare};
 ghost use Rattle.emitter.specs.Args.{cc_of};
 ghost use Rattle.emitter.specs.Written.{Writes, HasRoom};
-ghost use Rattle.words.specs.Word.{Emits, select, select_if, branch_body, branch_word, jalr_target, jalr_link};
+ghost use Rattle.words.specs.Word.{Emits, select, select_if, branch_body, branch_word, jalr_target, jalr_link, jalr_word};
 
 use crate::X64EmitFlow;
 use crate::slots::{x64_emit_const, x64_emit_load_pair, x64_emit_load_reg};
@@ -48,13 +48,26 @@ fn jalr_link(em: &mut X64Emitter<'_>, rd: XReg, link: u64)
 
 // JALR: the target is computed before the link is stored, since rd may be rs1.
 #[inline(always)]
-pub fn jalr(em: &mut X64Emitter<'_>, rd: XReg, rs1: XReg, imm: u32, link: u64)
+fn jalr(em: &mut X64Emitter<'_>, rd: XReg, rs1: XReg, imm: u32, link: u64)
     requires { HasRoom em.old 41 }
     ensures { Writes em.old (bytes (code_jalr rd rs1 imm link)) em.new }
 {
     jalr_target(em, rs1, imm);
     jalr_link(em, rd, link);
     em.mov_r64_r64(X64Emitter::RAX, X64Emitter::R10);
+}
+
+// The words of JALR's opcode: a reserved funct3 is not taken, and nothing is written for it (document 02, Q-6). The Rust takes it as JALR.
+#[inline(always)]
+pub fn jalr_word(em: &mut X64Emitter<'_>, d: Decoded32, imm: u32, link: u64) -> Option<X64EmitFlow>
+    requires { HasRoom em.old 41 }
+    ensures { Emits em.old (jalr_word d imm link) em.new result }
+{
+    if d.funct3 != isa::F3_JALR {
+        return None;
+    }
+    jalr(em, d.rd, d.rs1, imm, link);
+    Some(X64EmitFlow::Terminate)
 }
 
 // The condition of a branch; none for a reserved funct3.

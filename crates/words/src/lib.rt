@@ -75,8 +75,7 @@ fn emit_by_opcode(em: &mut X64Emitter<'_>, pc: u64, instr: u32, d: Decoded32) ->
         }
         isa::OPCODE_JALR => {
             let link = pc.wrapping_add(4);
-            jump::jalr(em, d.rd, d.rs1, imm32(instr), link);
-            Some(X64EmitFlow::Terminate)
+            jump::jalr_word(em, d, imm32(instr), link)
         }
         isa::OPCODE_BRANCH => {
             let next = pc.wrapping_add(4);
@@ -93,7 +92,7 @@ fn emit_by_opcode(em: &mut X64Emitter<'_>, pc: u64, instr: u32, d: Decoded32) ->
 }
 
 // A word of the run at pc: its host instructions, and how the block goes on behind it. None, as in the Rust: the word is not taken, or a load
-// or store; there is no code for it but the loads in front of its test.
+// or store; there is no code for it but the loads in front of its test, of which JALR has none.
 #[inline(always)]
 pub fn emit_native_instr_x64(em: &mut X64Emitter<'_>, pc: u64, instr: u32) -> Option<X64EmitFlow>
     requires { HasRoom em.old 63 }

@@ -1,6 +1,6 @@
 -- The cases that document 01 marks P, as document 02 changes them, those and no others: one list, and one Boolean test over it.
--- The case stands above each. The bytes are those that the original Rust wrote, but for DIVW, which the Rust does not take: an
--- assembler's. `_` parts host instructions.
+-- The case stands above each. The bytes are those that the original Rust wrote, to the run up to FENCE.I and up to a reserved JALR;
+-- those of DIVW, which the Rust does not take, are an assembler's. `_` parts host instructions.
 use Rattle.std.proofs.Common.{Bool, true, false, ◌&&◌, List, [], ◌∷◌, ◌++◌, ℕ, zero, suc, ◌-◌, ◌/◌, ◌%◌, ◌^◌, eqb}
 use Rattle.agreement.specs.Riscv.Immediates as Manual
 use Rattle.agreement.specs.Translation.Decode32 as Decode32
@@ -134,8 +134,11 @@ cases =
     (framed (dump 38 0x4C8B9308000000_49C1E23F_4C899308000000_48B80400008000000000_48BA0100000000000000))
     -- 0x0200909B (SLLIW by 32): number 4
     ∷ translation 0x80000000 64 (words (0x0200909B ∷ [])) 4 (0x0200909B ∷ []) []
-    -- 0x00009067 (JALR x0, x1 with funct3 1): 81 bytes
-    ∷ translation 0x80000000 64 (words (0x00009067 ∷ [])) 0 (81 ∷ 1 ∷ 4 ∷ [])
+    -- 0x00009067 (JALR's opcode with funct3 1, which is reserved): number 4; behind 0x00500093: as without it (document 02, Q-6)
+    ∷ translation 0x80000000 64 (words (0x00009067 ∷ [])) 4 (0x00009067 ∷ []) []
+    ∷ same 0x80000000 64 (words (0x00500093 ∷ 0x00009067 ∷ [])) (words (0x00500093 ∷ []))
+    -- 0x00008067 (JALR x0, x1, 0): 81 bytes
+    ∷ translation 0x80000000 64 (words (0x00008067 ∷ [])) 0 (81 ∷ 1 ∷ 4 ∷ [])
     (framed (dump 34 0x4C8B9308000000_4981C200000000_4981E2FEFFFFFF_4C89D0_48BA0100000000000000))
     -- sixty-four times 0x002091BB (SLLW): 2,243 bytes
     ∷ translation 0x80000000 64 (copies 64 (words (0x002091BB ∷ []))) 0 (2243 ∷ 64 ∷ 256 ∷ [])

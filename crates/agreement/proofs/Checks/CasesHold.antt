@@ -6,7 +6,7 @@ use Rattle.agreement.specs.Translation.Kind.{match, kind_op, kind_op32, kind_op_
 use Rattle.agreement.specs.Translation.Kind.{kind_fence, kind_of, kind}
 use Rattle.agreement.specs.Translation.Emit.{leftover}
 use Rattle.agreement.specs.Translation.Walk.{emit, walk, ending, instrs, counted, spanned}
-use Rattle.agreement.specs.Translation.Replies.{numbered, first_word, first, by_first, translate}
+use Rattle.agreement.specs.Translation.Replies.{rules, numbered, first_word, first, by_first, translate}
 use Rattle.agreement.specs.Translation.Place.{placing_numbered, place}
 use Rattle.agreement.proofs.Checks.Cases.{by_manual, by_rust, equal, code_of, is_reply, holds, every, dump, framed, copies, words, cases}
 
@@ -32,3 +32,7 @@ tests = tt
 pub cases_hold : every cases ≡ true
 unfolding immediates translations tests placing_numbered place holds every cases
 cases_hold = refl
+
+-- document 02, Q-6: the number that callers compare
+rules_are : rules ≡ 6
+rules_are = refl

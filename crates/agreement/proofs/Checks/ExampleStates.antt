@@ -1,7 +1,7 @@
 -- The manual's state along the example, turn by turn, by computing.
 use Rattle.std.proofs.Common.{cond, false, not, true, ◌∙◌, ◌≡◌, ap, refl, ◌%◌, ◌+◌, ◌^◌, arith, eqb}
 use Rattle.agreement.specs.Common.{Helper.for_access, Helper.for_halfword}
-use Rattle.agreement.specs.Riscv.Instruction.{branches, find, find_in, three_is, top_is, value_op_imm}
+use Rattle.agreement.specs.Riscv.Instruction.{branches, find, find_in, named, three_is, top_is, value_op_imm}
 use Rattle.agreement.specs.Riscv.Code.{run_at}
 use Rattle.agreement.specs.Riscv.Run.{GuestState, Registers, does, first_refused, help, is_long, is_not_taken, reading, refused, taken}
 use Rattle.agreement.specs.Riscv.Run.{write_x}
@@ -20,7 +20,7 @@ m0 = start first_pc zeros
 
 -- which kind of turn each is, by computing
 unfoldable pub reads_a_turn : Unit {0}
-unfolding run_at refused first_refused is_not_taken is_long taken find_in find three_is top_is reading does words feed_of leaves
+unfolding run_at refused first_refused is_not_taken is_long taken named find_in find three_is top_is reading does words feed_of leaves
 reads_a_turn = tt
 
 pub first_refused_lem : is_refused refused_turn m0 ≡ true

@@ -23,10 +23,11 @@ every (s ∷ ss) = has (reply 0x80000000 s.limit s.halfwords) s.span && every ss
 
 unfoldable cases : List Span
 cases =
-    -- ADDI, then a halfword, LD, BRANCH with funct3 2, half a word, nothing
+    -- ADDI, then a halfword, LD, BRANCH with funct3 2, JALR's opcode with funct3 1, half a word, nothing
     spans 64 (words (0x00500093 ∷ []) ++ 0x0001 ∷ []) 6
     ∷ spans 64 (words (0x00500093 ∷ 0x0000B083 ∷ [])) 8
     ∷ spans 64 (words (0x00500093 ∷ 0x00002063 ∷ [])) 4
+    ∷ spans 64 (words (0x00500093 ∷ 0x00009067 ∷ [])) 4
     ∷ spans 64 (words (0x00500093 ∷ []) ++ 0x0093 ∷ []) 4
     ∷ spans 64 (words (0x00500093 ∷ [])) 4
     -- first a halfword; SD; FENCE.I, with ADDI behind it; JAL

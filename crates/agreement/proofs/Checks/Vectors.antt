@@ -1,5 +1,6 @@
--- Further vectors of the definitions: replies, bytes and immediates as the original Rust gives them. Two things are document 02's, Q-2:
--- number 5 goes by 4,099 in place of 2,243, and the rest of M is taken; its bytes are what an assembler makes of the host instructions.
+-- Further vectors of the definitions: replies, bytes and immediates as the original Rust gives them. Three things are document 02's: number 5
+-- goes by 4,099 in place of 2,243, and the rest of M is taken, its bytes being what an assembler makes of the host instructions (Q-2); JALR's
+-- opcode with funct3 1 to 7 is not taken (Q-6).
 use Rattle.std.proofs.Common.{◌≡◌, refl, Bool, true, ◌&&◌, List, [], ◌∷◌, ◌++◌, ℕ, ◌-◌, ◌^◌, length}
 use Rattle.agreement.specs.Translation.Replies.{Reply, translate}
 use Rattle.agreement.proofs.Checks.Cases.{is_reply, holds, dump, framed, copies, words}
@@ -9,7 +10,8 @@ use Rattle.agreement.proofs.Checks.CasesHold.{immediates, translations, tests}
 
 -- a word translated alone at 0x80000000, with its n bytes: it goes on, it ends the block, it ends in a helper's call;
 -- a word with rd x3, rs1 x1 and rs2 x2, which goes on, with its n bytes between loads and store; a word that goes on and has no bytes;
--- a word not taken behind an ADDI, with the n bytes that it leaves, or none; a run of halfwords, the output's length, and the whole reply;
+-- a word not taken, number 4 if it is the first, with the n bytes that it leaves behind an ADDI, or none; a run of halfwords, the output's
+-- length, and the whole reply;
 -- the I, S, B, U and J immediate of a word, by both definitions
 data Vector : Type 0 where
   straight ending helped : (word n bytes : ℕ) → Vector
@@ -26,6 +28,9 @@ translated start limit hs room = translate start limit hs 0x1111111111111111 0x2
 -- words whose block has count 1 and spans the first, and its bytes between opening and closing
 abbrev single : List ℕ → List ℕ → Bool
 single ws bytes = is_reply (translated 0x80000000 64 (words ws) 4099) 0 (length (framed bytes) ∷ 1 ∷ 4 ∷ []) (framed bytes)
+
+abbrev refused : ℕ → Bool
+refused w = is_reply (translated 0x80000000 64 (words (w ∷ [])) 4099) 4 (w ∷ []) []
 
 -- RDX becomes the count; before that RAX the next pc, unless the word has set it
 abbrev counts : List ℕ
@@ -45,8 +50,8 @@ passes (helped w n v) = single (w ∷ []) (dump n v)
 passes (between w n v) =
     single (w ∷ []) (dump 14 0x4C8B9308000000_4C8B9B10000000 ++ (dump n v ++ (dump 7 0x4C899318000000 ++ goes_on)))
 passes (silent w) = single (w ∷ []) goes_on
-passes (leaves w n v) = single (0x00500093 ∷ w ∷ []) (addi ++ (dump n v ++ goes_on))
-passes (leaves_nothing w) = single (0x00500093 ∷ w ∷ []) (addi ++ goes_on)
+passes (leaves w n v) = refused w && single (0x00500093 ∷ w ∷ []) (addi ++ (dump n v ++ goes_on))
+passes (leaves_nothing w) = refused w && single (0x00500093 ∷ w ∷ []) (addi ++ goes_on)
 passes (run start limit hs room number values bytes) = is_reply (translated start limit hs room) number values bytes
 passes (five w i s b u j) =
     holds (immediate I w i) && (holds (immediate S w s)
@@ -121,7 +126,7 @@ each_word =
     ∷ ending 0xFFF88067 24 0x4C8B9388000000_4981C2FFFFFFFF_4981E2FEFFFFFF_4C89D0  -- JALR x0, x17, -1
     ∷ ending 0x7FF900E7 41 0x4C8B9390000000_4981C2FF070000_4981E2FEFFFFFF_49BB0400008000000000_4C899B08000000_4C89D0  -- JALR x1, x18, 2047
     ∷ ending 0x010989E7 41 0x4C8B9398000000_4981C210000000_4981E2FEFFFFFF_49BB0400008000000000_4C899B98000000_4C89D0  -- JALR x19, x19, 16
-    ∷ ending 0x8001F167 41 0x4C8B9318000000_4981C200F8FFFF_4981E2FEFFFFFF_49BB0400008000000000_4C899B10000000_4C89D0  -- JALR with funct3 7
+    ∷ ending 0x80018167 41 0x4C8B9318000000_4981C200F8FFFF_4981E2FEFFFFFF_49BB0400008000000000_4C899B10000000_4C89D0  -- JALR x2, x3, -2048
     ∷ silent 0x0FF0000F  -- FENCE
     ∷ silent 0x0000008F  -- FENCE, rd x1
     -- rd x0: computed without the store; LUI and AUIPC give nothing
@@ -165,6 +170,14 @@ runs =
     ∷ leaves_nothing 0x00017083  -- LOAD funct3 7
     ∷ leaves_nothing 0x0020C023  -- STORE funct3 4
     ∷ leaves_nothing 0x0000200F  -- MISC-MEM funct3 2
+    -- JALR's opcode with funct3 1 to 7 (document 02, Q-6)
+    ∷ leaves_nothing 0x00009067
+    ∷ leaves_nothing 0xFFF8A067
+    ∷ leaves_nothing 0x7FF930E7
+    ∷ leaves_nothing 0x0109C9E7
+    ∷ leaves_nothing 0xFFFFDFE7
+    ∷ leaves_nothing 0x00006067
+    ∷ leaves_nothing 0x8001F167
     ∷ leaves_nothing 0x1005252F  -- AMO
     ∷ leaves_nothing 0xFFFFFFFF  -- low five bits 11111
     ∷ run 0x80000000 64 (words (0x00500093 ∷ []) ++ 0x91B3 ∷ []) 4099 0 (88 ∷ 1 ∷ 4 ∷ [])  -- OP, its upper half missing

@@ -1,26 +1,32 @@
--- The Rust's tests and the manual's rows take every word for the same instruction.
-use Rattle.std.proofs.Common.{Bool, ◌&&◌, cond, false, true, List, [], ◌++◌, ◌∷◌, ◌≢◌, ◌∙◌, ◌≡◌, ap, refl, subst, sym, ◌<◌, suc, zero, ℕ}
+-- The translator's tests name a word as the manual's listing does where document 01 chooses that name, and else not at all.
+use Rattle.std.proofs.Common.{Bool, cond, false, true, List, [], ◌∷◌, ◌∙◌, ◌≡◌, ap, refl, subst, sym, ◌<◌, suc, zero, ℕ}
 use Rattle.std.proofs.Common.{arith, eqb, eqb→eq}
 use native.Mathlib.Decide.{ℕ_discrete}
-use Rattle.agreement.specs.Laws.{NamesAlike, TakenAlike}
+use Rattle.agreement.specs.Laws.{TakenAlike}
 use Rattle.agreement.specs.Riscv.Fields.{funct3, funct6, funct7, opcode}
-use Rattle.agreement.specs.Riscv.Instruction.{Instruction, Row, access_rows, branch_rows, environment_rows, find, find_in, listing, named}
-use Rattle.agreement.specs.Riscv.Instruction.{op_imm_rows, op_m_rows, op_rows, row, single_rows, three_is, top_is}
-use Rattle.agreement.specs.Riscv.Instruction.Instruction.{JALR, other}
-use Rattle.agreement.specs.Riscv.Instruction.Three.{any_three}
-use Rattle.agreement.specs.Riscv.Instruction.Top.{any_top}
-use Rattle.agreement.specs.Riscv.Run.{chosen, chosen_rows, reserved_rows, taken}
+use Rattle.agreement.specs.Riscv.Instruction.{Instruction, Row, find, find_in, listing, named, row, three_is, top_is}
+use Rattle.agreement.specs.Riscv.Instruction.Instruction.{other}
+use Rattle.agreement.specs.Riscv.Run.{chosen, taken}
 use Rattle.agreement.specs.Translation.Kind.{Arm, kind, kind_branch, kind_fence, kind_load, kind_of, kind_op, kind_op32, kind_op_imm}
 use Rattle.agreement.specs.Translation.Kind.{kind_op_imm32, kind_store, match}
 use Rattle.agreement.proofs.Laws.Fields.{funct3_is, funct6_is, funct7_is, opcode_is}
-use Rattle.agreement.proofs.Laws.Tests.{eqb_no, of_true}
+use Rattle.agreement.proofs.Laws.Tests.{cond_same, eqb_no, of_true}
+
+-- SYSTEM, of which no word is taken, and the opcodes in the order of the translator's match
+abbrev opcodes : List ℕ
+opcodes = 0x73 ∷ 0x37 ∷ 0x17 ∷ 0x6F ∷ 0x67 ∷ 0x63 ∷ 0x13 ∷ 0x1B ∷ 0x33 ∷ 0x3B ∷ 0x0F ∷ 0x03 ∷ 0x23 ∷ []
+
+-- a name where it is chosen, and else none: `taken` is this of what the listing names
+abbrev if_chosen : Instruction → Instruction
+if_chosen i = cond (chosen i) i other
+
+-- the listing, its rows renamed so
+abbrev renamed : List Row → List Row
+renamed [] = []
+renamed (r ∷ rs) = row (if_chosen r.name) r.code r.three r.top ∷ renamed rs
 
 abbrev rows : List Row
-rows = chosen_rows listing ++ reserved_rows
-
--- the opcodes in the order of the Rust's match
-abbrev opcodes : List ℕ
-opcodes = 0x37 ∷ 0x17 ∷ 0x6F ∷ 0x67 ∷ 0x63 ∷ 0x13 ∷ 0x1B ∷ 0x33 ∷ 0x3B ∷ 0x0F ∷ 0x03 ∷ 0x23 ∷ []
+rows = renamed listing
 
 -- 1. By opcode: a property that holds of each in a list, and where none of them is met, holds of all
 
@@ -100,13 +106,17 @@ match_missed o [] m = refl
 match_missed o (a ∷ arms) m = rw m.0 (match_missed o arms m.1)
 
 kind_missed : (o f s t : ℕ) → Misses o opcodes → kind_of o f s t ≡ other
-unfolding kind_of
-kind_missed o f s t m = match_missed o _ m
+unfolding kind_of Misses
+kind_missed o f s t m = match_missed o _ m.1
 
--- 3. The Rust's tests are the rows that a turn takes
+-- 3. The tests are the renamed listing
 
 abbrev Same : ℕ → ℕ → ℕ → ℕ → ℕ → Type 0
 Same o s t w f = kind_of o f s t ≡ find o f s t w rows
+
+-- ECALL and EBREAK, which are told by the whole word
+unchosen : (a b : Bool) → other ≡ cond a other (cond b other other)
+unchosen a b = sym (ap (cond a other) (cond_same b other) ∙ cond_same a other)
 
 unfoldable Alike : ℕ → Type 0
 Alike o = (s t w f : ℕ) → f < 8 → Same o s t w f
@@ -114,30 +124,33 @@ Alike o = (s t w f : ℕ) → f < 8 → Same o s t w f
 alikes : All Alike opcodes
 unfolding All Alike kind_of match kind_op kind_op32 kind_op_imm kind_op_imm32 kind_branch kind_load kind_store kind_fence find three_is top_is
 alikes = (
-  (λ s t w. eight (Same 0x37 s t w) refl refl refl refl refl refl refl refl),
+  (λ s t w. eight (Same 0x73 s t w) (unchosen (eqb w 0x00000073) (eqb w 0x00100073)) refl refl refl refl refl refl refl),
   (
-    (λ s t w. eight (Same 0x17 s t w) refl refl refl refl refl refl refl refl),
+    (λ s t w. eight (Same 0x37 s t w) refl refl refl refl refl refl refl refl),
     (
-      (λ s t w. eight (Same 0x6F s t w) refl refl refl refl refl refl refl refl),
+      (λ s t w. eight (Same 0x17 s t w) refl refl refl refl refl refl refl refl),
       (
-        (λ s t w. eight (Same 0x67 s t w) refl refl refl refl refl refl refl refl),
+        (λ s t w. eight (Same 0x6F s t w) refl refl refl refl refl refl refl refl),
         (
-          (λ s t w. eight (Same 0x63 s t w) refl refl refl refl refl refl refl refl),
+          (λ s t w. eight (Same 0x67 s t w) refl refl refl refl refl refl refl refl),
           (
-            (λ s t w. eight (Same 0x13 s t w) refl refl refl refl refl refl refl refl),
+            (λ s t w. eight (Same 0x63 s t w) refl refl refl refl refl refl refl refl),
             (
-              (λ s t w. eight (Same 0x1B s t w) refl refl refl refl refl refl refl refl),
+              (λ s t w. eight (Same 0x13 s t w) refl refl refl refl refl refl refl refl),
               (
-                (λ s t w. eight (Same 0x33 s t w) refl refl refl refl refl refl refl refl),
+                (λ s t w. eight (Same 0x1B s t w) refl refl refl refl refl refl refl refl),
                 (
-                  (λ s t w. eight (Same 0x3B s t w) refl refl refl refl refl refl refl refl),
+                  (λ s t w. eight (Same 0x33 s t w) refl refl refl refl refl refl refl refl),
                   (
-                    (λ s t w. eight (Same 0x0F s t w) refl refl refl refl refl refl refl refl),
+                    (λ s t w. eight (Same 0x3B s t w) refl refl refl refl refl refl refl refl),
                     (
-                      (λ s t w. eight (Same 0x03 s t w) refl refl refl refl refl refl refl refl),
+                      (λ s t w. eight (Same 0x0F s t w) refl refl refl refl refl refl refl refl),
                       (
-                        (λ s t w. eight (Same 0x23 s t w) refl refl refl refl refl refl refl refl),
-                        tt,
+                        (λ s t w. eight (Same 0x03 s t w) refl refl refl refl refl refl refl refl),
+                        (
+                          (λ s t w. eight (Same 0x23 s t w) refl refl refl refl refl refl refl refl),
+                          tt,
+                        ),
                       ),
                     ),
                   ),
@@ -157,10 +170,23 @@ alike_all o = by_opcode Alike o opcodes alikes (λ m. none m)
     none : Misses o opcodes → Alike o
     none m = unfold Alike in λ s t w f l. kind_missed o f s t m ∙ sym (missed o f s t w rows rows_covered m)
 
+-- 4. Renaming the rows renames what is found
+
+if_chosen_cond : (c : Bool) (x y : Instruction) → if_chosen (cond c x y) ≡ cond c (if_chosen x) (if_chosen y)
+if_chosen_cond true x y = refl
+if_chosen_cond false x y = refl
+
+find_renamed : (o f s t w : ℕ) (rs : List Row) → if_chosen (find o f s t w rs) ≡ find o f s t w (renamed rs)
+unfolding find
+find_renamed o f s t w [] = refl
+find_renamed o f s t w (r ∷ rs) =
+    if_chosen_cond _ r.name (find o f s t w rs) ∙ ap (cond _ (if_chosen r.name)) (find_renamed o f s t w rs)
+
 pub kind_is : (w : ℕ) → kind w ≡ taken w
-unfolding kind taken find_in
+unfolding kind taken named find_in
 kind_is w =
-    rw (opcode_is w, funct3_is w, funct7_is w, funct6_is w) (at (alike_all (opcode w)))
+    rw (opcode_is w, funct3_is w, funct7_is w, funct6_is w)
+    (at (alike_all (opcode w)) ∙ sym (find_renamed (opcode w) (funct3 w) (funct7 w) (funct6 w) w listing))
   where
     at : Alike (opcode w) → Same (opcode w) (funct7 w) (funct6 w) w (funct3 w)
     at h = unfold Alike in h (funct7 w) (funct6 w) w (funct3 w) (omega arith)
@@ -168,95 +194,3 @@ kind_is w =
 pub taken_alike : TakenAlike
 unfolding TakenAlike
 taken_alike = kind_is
-
--- 4. Against the manual's listing: its rows that are taken stand before those that are not
-
-abbrev front : List Row
-front = single_rows ++ (branch_rows ++ (access_rows ++ (op_imm_rows ++ (op_rows ++ op_m_rows))))
-
-abbrev back : List Row
-back = environment_rows
-
-abbrev keep : Instruction → Instruction
-keep i = cond (chosen i) i other
-
--- every name of the rows is chosen
-unfoldable all_chosen : List Row → Bool
-all_chosen [] = true
-all_chosen (r ∷ rs) = cond (chosen r.name) (all_chosen rs) false
-
--- none is
-unfoldable none_chosen : List Row → Bool
-none_chosen [] = true
-none_chosen (r ∷ rs) = cond (chosen r.name) false (none_chosen rs)
-
-both : (a b : Bool) → cond a b false ≡ true → (a ≡ true) × (b ≡ true)
-both true b e = (refl, e)
-both false b e = absurd (false_true e)
-
-neither : (a b : Bool) → cond a false b ≡ true → (a ≡ false) × (b ≡ true)
-neither true b e = absurd (false_true e)
-neither false b e = (refl, e)
-
--- does the row fit
-abbrev fits : Row → ℕ → ℕ → ℕ → ℕ → ℕ → Bool
-fits r o f s t w = eqb o r.code && (three_is r.three f && top_is r.top s t w)
-
-keep_row : (c : Bool) (i x : Instruction) → chosen i ≡ false → keep x ≡ other → keep (cond c i x) ≡ other
-keep_row true i x p q = rw p
-keep_row false i x p q = q
-
-keep_back : (o f s t w : ℕ) (rs : List Row) → none_chosen rs ≡ true → keep (find o f s t w rs) ≡ other
-unfolding find none_chosen
-keep_back o f s t w [] h = refl
-keep_back o f s t w (r ∷ rs) h =
-    let n = neither (chosen r.name) (none_chosen rs) h in
-    keep_row (fits r o f s t w) r.name _ n.0 (keep_back o f s t w rs n.1)
-
-keep_rows : (c : Bool) (i x y : Instruction) → chosen i ≡ true → keep x ≡ y → keep (cond c i x) ≡ cond c i y
-keep_rows true i x y p q = rw p
-keep_rows false i x y p q = q
-
-keep_front : (o f s t w : ℕ) (rs xs : List Row) → all_chosen rs ≡ true → none_chosen xs ≡ true
-    → keep (find o f s t w (rs ++ xs)) ≡ find o f s t w rs
-unfolding find all_chosen
-keep_front o f s t w [] xs h k = keep_back o f s t w xs k
-keep_front o f s t w (r ∷ rs) xs h k =
-    let c = both (chosen r.name) (all_chosen rs) h in
-    keep_rows (fits r o f s t w) r.name _ _ c.0 (keep_front o f s t w rs xs c.1 k)
-
-front-chosen : all_chosen front ≡ true
-unfolding all_chosen
-front-chosen = refl
-
-back_unchosen : none_chosen back ≡ true
-unfolding none_chosen
-back_unchosen = refl
-
--- a row of another opcode at the end names nothing
-find-last : (o f s t w : ℕ) (rs : List Row) (x : Row) → eqb o x.code ≡ false
-    → find o f s t w (rs ++ x ∷ []) ≡ find o f s t w rs
-unfolding find
-find-last o f s t w [] x e = rw e
-find-last o f s t w (r ∷ rs) x e = ap (cond (fits r o f s t w) r.name) (find-last o f s t w rs x e)
-
-elsewhere_is : (o f s t w : ℕ) → o ≢ 0x67 → find o f s t w rows ≡ keep (find o f s t w listing)
-elsewhere_is o f s t w n =
-    find-last o f s t w front (row JALR 0x67 any_three any_top) (eqb_no o 0x67 n)
-    ∙ sym (keep_front o f s t w front back front-chosen back_unchosen)
-
-jalr_taken : (f s t w : ℕ) → f < 8 → find 0x67 f s t w rows ≡ JALR
-unfolding find three_is top_is
-jalr_taken f s t w = eight (λ f. find 0x67 f s t w rows ≡ JALR) refl refl refl refl refl refl refl refl f
-
-jalr_zero : (s t w : ℕ) → find 0x67 0 s t w listing ≡ JALR
-unfolding find three_is top_is
-jalr_zero s t w = refl
-
-pub names_alike : NamesAlike
-unfolding NamesAlike
-names_alike w = record {
-  elsewhere = λ n. kind_is w ∙ unfold taken named find_in in elsewhere_is (opcode w) (funct3 w) (funct7 w) (funct6 w) w n;
-  jalr = λ e. kind_is w ∙ unfold taken find_in in rw e (jalr_taken (funct3 w) (funct7 w) (funct6 w) w (omega arith));
-  jalr_named = λ e f. unfold named find_in in rw (e, f) (jalr_zero (funct7 w) (funct6 w) w);
-}

@@ -1,5 +1,5 @@
--- Boolean tests on numbers, decided.
-use Rattle.std.proofs.Common.{Bool, false, not, true, ◌≢◌, ◌≡◌, refl, subst, ◌<◌, ◌≤◌, ℕ, arith, T, eqb, eqb→eq, leb, leb→le, le→leb}
+-- Boolean tests on numbers, decided; a choice between the same.
+use Rattle.std.proofs.Common.{Bool, cond, false, not, true, ◌≢◌, ◌≡◌, refl, subst, ◌<◌, ◌≤◌, ℕ, arith, T, eqb, eqb→eq, leb, leb→le, le→leb}
 use lib.Dec.{eqb_refl, nleb→lt}
 
 pub yes_is : (b : Bool) → T b → b ≡ true
@@ -39,3 +39,7 @@ leb-false a b e = nleb→lt a b (of_false (leb a b) e)
 
 pub eqb-true : (a b : ℕ) → eqb a b ≡ true → a ≡ b
 eqb-true a b e = eqb→eq a b (of_true (eqb a b) e)
+
+pub cond_same : {A : Type 0} (b : Bool) (x : A) → cond b x x ≡ x
+cond_same true x = refl
+cond_same false x = refl

@@ -1,25 +1,23 @@
 -- The manual's run. Document 01, "The manual's run in demand 3", "Words taken" and "Replies"; meanings from the manual.
 -- It uses no definition of the translator or the host: it is fed a turn's code, how far that was fetched, the limit and the output's
 -- length, and what a helper left.
-use Rattle.std.specs.Prelude.{Bool, true, false, cond, ◌||◌, List, [], ◌∷◌, ◌++◌, ℕ, zero, suc, ◌+◌, ◌*◌, ◌/◌, ◌%◌, min, ltb, eqb}
+use Rattle.std.specs.Prelude.{Bool, true, false, cond, ◌||◌, List, [], ◌∷◌, ℕ, zero, suc, ◌+◌, ◌*◌, ◌/◌, ◌%◌, min, ltb, eqb}
 use Rattle.std.proofs.Math.Option.{Option, none, some}
 use Rattle.agreement.specs.Common.{greatest, most_steps, Helper, Helper.for_halfword, Helper.for_access}
 use Rattle.agreement.specs.Riscv.Code.{Code, run_at}
 use Rattle.agreement.specs.Riscv.Fields.{rd, rs1, rs2, shamt6, shamt5, plus}
 use Rattle.agreement.specs.Riscv.Immediates.{imm_i, imm_b, imm_j, imm_u}
-use Rattle.agreement.specs.Riscv.Instruction.{Instruction, Row, row, find_in, listing, value_op, value_op_imm, branches}
+use Rattle.agreement.specs.Riscv.Instruction.{Instruction, named, value_op, value_op_imm, branches}
 use Rattle.agreement.specs.Riscv.Instruction.Instruction.{op, op_imm, branch, access, unmodelled, LUI, AUIPC, JAL, JALR, FENCE}
 use Rattle.agreement.specs.Riscv.Instruction.Instruction.{FENCE_I, other}
-use Rattle.agreement.specs.Riscv.Instruction.Three.{any_three}
-use Rattle.agreement.specs.Riscv.Instruction.Top.{any_top}
 
 -- x0 to x31 by number
 abbrev pub Registers : Type 0
 Registers = ℕ → ℕ
 
--- 1. The words that a turn takes (document 01, "Words taken")
+-- 1. The words that a turn takes: the manual's listing, where document 01 chooses it ("Words taken")
 
--- not taken: the environment calls. This choice and `reserved_rows` are document 01's, not the manual's.
+-- not chosen: the environment calls
 abbrev pub chosen : Instruction → Bool
 chosen (op o) = true
 chosen (op_imm o) = true
@@ -34,17 +32,9 @@ chosen FENCE_I = true
 chosen (unmodelled u) = false
 chosen other = false
 
-abbrev pub chosen_rows : List Row → List Row
-chosen_rows [] = []
-chosen_rows (r ∷ rs) = cond (chosen r.name) (r ∷ chosen_rows rs) (chosen_rows rs)
-
--- taken although the manual reserves it: JALR with funct3 1 to 7, as JALR
-abbrev pub reserved_rows : List Row
-reserved_rows = row JALR 0x67 any_three any_top ∷ []
-
 -- which instruction a turn takes a word for; `other`: it is not taken
 unfoldable pub taken : ℕ → Instruction
-taken w = find_in (chosen_rows listing ++ reserved_rows) w
+taken w = cond (chosen (named w)) (named w) other
 
 -- an instruction of 16 bits has low two bits that are not 3 ("Base Instruction-Length Encoding"); all others are read as
 -- words of 32 bits

@@ -157,7 +157,8 @@ abbrev pub code_branch : Branch → ℕ → ℕ → ℕ → ℕ → List Instr
 code_branch c rs1 rs2 next target =
     compare rs1 rs2 ++ mov_imm64 R11 next ∷ mov_imm64 RAX target ∷ cmov (cc_for c) R11 RAX ∷ mov RAX R11 ∷ []
 
--- what a word that is not taken leaves behind, by its opcode: the Rust loads (and compares) before it tests funct3 and funct7
+-- what a word that is not taken leaves behind, by its opcode: the Rust loads (and compares) before it tests funct3 and funct7. A reserved
+-- funct3 of JALR, which the Rust does not test, leaves nothing (document 02, Q-6)
 unfoldable pub leftover : ℕ → ℕ → ℕ → List Instr
 leftover o rs1 rs2 =
     cond (eqb o 0x63) (compare rs1 rs2) (

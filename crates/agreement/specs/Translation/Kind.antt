@@ -106,13 +106,13 @@ kind_store f = match f (
 unfoldable pub kind_fence : ℕ → Instruction
 kind_fence f = match f (0 ⇒ FENCE ∷ 1 ⇒ FENCE_I ∷ [])
 
--- opcode, funct3, funct7, imm_hi; JALR is taken with any funct3
+-- opcode, funct3, funct7, imm_hi. The Rust takes JALR with any funct3, request Q-6 with 0 alone
 unfoldable pub kind_of : ℕ → ℕ → ℕ → ℕ → Instruction
 kind_of o f s t = match o (
     0x37 ⇒ LUI
     ∷ 0x17 ⇒ AUIPC
     ∷ 0x6F ⇒ JAL
-    ∷ 0x67 ⇒ JALR
+    ∷ 0x67 ⇒ match f (0 ⇒ JALR ∷ [])
     ∷ 0x63 ⇒ kind_branch f
     ∷ 0x13 ⇒ kind_op_imm f t
     ∷ 0x1B ⇒ kind_op_imm32 f s

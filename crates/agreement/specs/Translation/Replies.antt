@@ -8,6 +8,10 @@ use Rattle.agreement.specs.Translation.Decode32.{word_of}
 use Rattle.agreement.specs.Translation.Kind.{kind, kind_number}
 use Rattle.agreement.specs.Translation.Walk.{Walked, walk, instrs, counted, spanned}
 
+-- document 02, Q-6: which rules these are, by the number of its request that last changed what a run is translated to
+abbrev pub rules : ℕ
+rules = 6
+
 pub record Block : Type 0 where
   pub code : List ℕ
   pub count : ℕ

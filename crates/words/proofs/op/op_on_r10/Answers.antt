@@ -1,7 +1,7 @@
 use Rattle.std.proofs.Common.{◌≡◌, ◌≢◌, Bool, true, false, ℕ, [], rules, ne_eqb}
 use Rattle.agreement.specs.Translation.Kind.{kind_op, kind_op32, match}
 use Rattle.words.specs.Word.{kind_op_of, op_body, not_emitted}
-use Rattle.words.proofs.Choices.{cond_same}
+use Rattle.agreement.proofs.Laws.Tests.{cond_same}
 use Rattle.words.proofs.op.op_on_r10.Goals as goal
 
 other_funct7 : (w : Bool) (f s : ℕ) → s ≢ 0x00 → s ≢ 0x20 → s ≢ 0x01 → op_body (kind_op_of w f s) ≡ not_emitted []

@@ -1,6 +1,6 @@
 use Rattle.std.proofs.Common.{rules, ne_eqb}
 use Rattle.agreement.specs.Translation.Kind.{kind_op, match}
-use Rattle.words.proofs.Choices.{cond_same}
+use Rattle.agreement.proofs.Laws.Tests.{cond_same}
 use Rattle.words.proofs.op.op_sub_sra.Goals as goal
 
 pub returns-in-0 : goal.returns-in-0
