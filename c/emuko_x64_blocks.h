@@ -19,6 +19,16 @@ extern "C" {
 #define EMUKO_MOST_STEPS 64
 #define EMUKO_MOST_SPAN 256
 
+/* By which rules the archive translates: a number that grows with every change to what a run is translated to.
+ *
+ *     6    JALR with funct3 1 to 7, which the RISC-V manual reserves, is not taken
+ *     -    archives without this function took it as JALR
+ *
+ * An index whose blocks were made under other rules, or of which that is not known, is emptied by emuko_index_empty, once, before its next
+ * use: what it shows for a key can be another block than the one that the code there is translated to now. Blocks hold the addresses of
+ * their helpers: where these have moved, an index is emptied whatever the rules. */
+uint32_t emuko_rules(void);
+
 /* A number and its values, 0 where there are fewer. */
 typedef struct {
     uint64_t number;
@@ -106,7 +116,7 @@ emuko_reply emuko_index_insert(emuko_entry *entries, size_t entries_len, uint64_
 
 /* Empties the index and the store that its blocks stand in: every in_use and cache->used become 0. Keys and blocks stay readable in the
  * entries, and the store's bytes stay; what is placed next is written over them, so no block of before may be entered from then on. `cache`
- * is not NULL, also where there are no entries. */
+ * is not NULL, also where there are no entries. An index made by other rules than emuko_rules says is emptied so, once. */
 void emuko_index_empty(emuko_entry *entries, size_t entries_len, emuko_code_cache *cache);
 
 /* Drops the blocks that a write of the guest touches: in_use becomes 0 in every entry in use, under every satp, whose block spans one of

@@ -76,6 +76,8 @@ static void kinds(void) {
     CHECK(emuko_word_kind(0x0000000F) == EMUKO_STRAIGHT);
     CHECK(emuko_word_kind(0x0000100F) == EMUKO_ENDING);
     CHECK(emuko_word_kind(0x0000B183) == EMUKO_MEMORY_HELPER);
+    CHECK(emuko_word_kind(0x00008067) == EMUKO_ENDING);
+    for (uint32_t funct3 = 1; funct3 < 8; funct3++) CHECK(emuko_word_kind(0x00008067 | funct3 << 12) == EMUKO_NOT_TAKEN);
 }
 
 static uint8_t out[EMUKO_GREATEST_BLOCK];
@@ -136,6 +138,28 @@ static void spans(void) {
     CHECK(span_of(longest, sizeof longest / sizeof longest[0]) == EMUKO_MOST_SPAN);
     emuko_reply refused = emuko_translate(START, 64, branch + 2, 2, 0, 0, out, sizeof out);
     CHECK(refused.number == 4 && refused.first == 0x2063 && refused.second == 0 && refused.third == 0);
+}
+
+/* JALR with funct3 1 is not taken: number 4, and behind ADDI the block that ADDI has alone. An index made under earlier rules, in which
+ * such a word has a block, is emptied once. */
+static void reserved_jumps(void) {
+    static const uint16_t jalr[] = {0x0093, 0x0050, 0x9067, 0x0000};
+    static uint8_t alone[EMUKO_GREATEST_BLOCK];
+    emuko_reply refused = emuko_translate(START, 64, jalr + 2, 2, 0, 0, out, sizeof out);
+    CHECK(refused.number == 4 && refused.first == 0x9067 && refused.second == 0 && refused.third == 0);
+    emuko_reply addi = emuko_translate(START, 64, jalr, 2, 0, 0, alone, sizeof alone);
+    emuko_reply reply = emuko_translate(START, 64, jalr, 4, 0, 0, out, sizeof out);
+    CHECK(reply.number == 0 && reply.first == 88 && reply.second == 1 && reply.third == 4);
+    CHECK(addi.first == 88 && memcmp(out, alone, 88) == 0);
+
+    uint32_t made_under = 0;
+    emuko_entry entries[1] = {{0, START, {0, 1, 81, 4}, 1}};
+    emuko_code_cache cache = {81};
+    if (made_under != emuko_rules()) {
+        emuko_index_empty(entries, 1, &cache);
+        made_under = emuko_rules();
+    }
+    CHECK(made_under == 6 && cache.used == 0 && !emuko_index_find(entries, 1, 0, START).in_use);
 }
 
 /* Divisions as usual, by zero, and where the signed quotient overflows. */
@@ -279,6 +303,7 @@ static void dropping(void) {
 int main(void) {
     kinds();
     spans();
+    reserved_jumps();
     indexing();
     marks();
     dropping();

@@ -1,7 +1,7 @@
 #!/usr/bin/env python3
 """Blocks read by objdump and compared with qemu-riscv64: what others say of the definitions. Not part of the gate.
 
-    checks/outsiders.py [--seed N] [--blocks N] [--runs N] [--programs N] [--pairs N] [--spoil]
+    checks/outsiders.py [--seed N] [--blocks N] [--runs N] [--programs N] [--pairs N] [--jumps N] [--spoil]
 
 Needs the programs translate and, for the third part, replay (`rt run < stdin` in crates/translate and in crates/replay leaves each in that
 folder's out/), objdump (binutils) for the first part, and an x86-64 Linux with qemu-riscv64 (Debian: qemu-user) for the others;
@@ -13,16 +13,18 @@ QEMU_RISCV64 may name the latter. A part whose tool is missing, or of which no r
    the number of bytes that it skips.
 2. qemu: random runs of straight words, with or without a jump, a branch or FENCE.I at the end, are translated and entered on this
    processor. The same words stand in the memory of a RISC-V program under qemu-riscv64, which is led through them by single
-   steps over its debugger's port. All registers and the pc must be the same after the block's count of steps. JALR has funct3
-   0, since qemu refuses the others.
+   steps over its debugger's port. All registers and the pc must be the same after the block's count of steps.
 3. changed code: random loops that store a word over one of their own, then have FENCE.I, are run block by block on this processor, and by
    single steps under qemu. Blocks are kept by their pc, and all are dropped behind a FENCE.I. The store, which is a helper's in a block, is
    done here. All registers and the pc must be the same after the last step.
 4. pairs: a block of the thirteen words of M is entered on this processor with pairs of operands, all pairs of corners first, then random
    ones with corners often. A RISC-V program of the same words computes all of them under qemu-riscv64. Every result must be the same.
+5. jumps: words of JALR's opcode with each funct3 are executed by a RISC-V program under qemu-riscv64, one to a program. The word must be
+   translated where qemu jumps, and not be taken where qemu ends the program by an illegal instruction: then it has no block by itself, and
+   the block of ADDI with it behind is that of ADDI alone.
 
-With --spoil, each part changes one thing (a byte of a block, a word of a run, that blocks are dropped, a word of M) and must notice it by
-itself.
+With --spoil, each part changes one thing (a byte of a block, a word of a run, that blocks are dropped, a word of M, a funct3) and must notice
+it by itself.
 
 Ends with exit code 0 where no part found a disagreement (with --spoil: where every part found one), 1 where some part did (did not),
 2 where nothing could be checked.
@@ -36,6 +38,7 @@ import platform
 import random
 import re
 import shutil
+import signal
 import socket
 import struct
 import subprocess
@@ -116,13 +119,13 @@ class Words:
     def fence_i(self):
         return self.word(0x0F, 1, self.twelve())
 
-    def ending(self, reserved):
+    def ending(self):
         rng = self.rng
         sort = rng.randrange(4)
         if sort == 0:
             return rng.randrange(1 << 20) << 12 | self.register() << 7 | 0x6F
         if sort == 1:
-            return self.word(0x67, rng.randrange(8) if reserved else 0, self.twelve())
+            return self.word(0x67, 0, self.twelve())
         if sort == 2:
             return self.fence_i()
         return self.word(0x63, rng.choice(tuple(BRANCH)), rng.randrange(4096))
@@ -141,6 +144,7 @@ class Words:
             self.word(0x13, 1, rng.randrange(1, 64) << 6 | rng.randrange(64)),
             self.word(0x1B, rng.choice((2, 3, 4, 6, 7)), self.twelve()),
             self.word(0x63, rng.choice((2, 3)), self.twelve()),
+            self.word(0x67, rng.randrange(1, 8), self.twelve()),
             self.word(0x0F, rng.randrange(2, 8), self.twelve()),
             self.word(0x03, 7, self.twelve()),
             self.word(0x73, rng.randrange(8), self.twelve()),
@@ -151,6 +155,24 @@ class Words:
 def code_of(words, halfword=None):
     code = b"".join(struct.pack("<I", word) for word in words)
     return code if halfword is None else code + struct.pack("<H", halfword)
+
+
+def elf(base, data, memory):
+    """A RISC-V program as an ELF file: the data at base, and zeros behind it in so much memory."""
+    header = struct.pack("<16sHHIQQQIHHHHHH", b"\x7fELF\x02\x01\x01", 2, 243, 1, base, 64, 0, 0, 64, 56, 1, 0, 0, 0)
+    segment = struct.pack("<IIQQQQQQ", 1, 7, 0x1000, base, base, len(data), memory, 0x1000)
+    return (header + segment).ljust(0x1000, b"\0") + data
+
+
+def under_qemu(program, file):
+    """What a RISC-V program writes under qemu-riscv64, and its exit status."""
+    with tempfile.TemporaryDirectory() as folder:
+        name = os.path.join(folder, "program")
+        with open(name, "wb") as at:
+            at.write(file)
+        os.chmod(name, 0o700)
+        ran = subprocess.run([program, name], stdout=subprocess.PIPE, stderr=subprocess.DEVNULL)
+    return ran.stdout, ran.returncode
 
 
 def translate(code):
@@ -195,6 +217,8 @@ def upper_immediate(word, pc):
 
 def jump(word, pc):
     """JAL and JALR."""
+    if word & 0x7F == 0x67 and word >> 12 & 7:
+        return [], "refused"
     rd = destination(word)
     if word & 0x7F == 0x6F:
         offset = signed(word >> 31 << 20 | (word >> 12 & 255) << 12 | (word >> 20 & 1) << 11 | (word >> 21 & 1023) << 1, 21)
@@ -336,7 +360,7 @@ def runs_for_objdump(words, number_of_runs):
         straight = [words.straight() for _ in range(rng.choice((0, 1, 1, 2, 4, 16, 63, 64)))]
         end = rng.randrange(7)
         if end == 0:
-            straight = straight[:63] + [words.ending(True)]
+            straight = straight[:63] + [words.ending()]
         elif end == 5:
             straight = straight[:62] + [words.fence_i(), words.straight()]
         elif end == 1:
@@ -426,10 +450,8 @@ class Qemu:
         self.folder = tempfile.TemporaryDirectory()
         name = os.path.join(self.folder.name, "pages")
         pages = bytes(0x1000) + code_of(self.LOOP).ljust(0x1000, b"\0") + bytes(0x1000)
-        header = struct.pack("<16sHHIQQQIHHHHHH", b"\x7fELF\x02\x01\x01", 2, 243, 1, START, 64, 0, 0, 64, 56, 1, 0, 0, 0)
-        segment = struct.pack("<IIQQQQQQ", 1, 7, 0x1000, START, START, len(pages), len(pages), 0x1000)
         with open(name, "wb") as file:
-            file.write((header + segment).ljust(0x1000, b"\0") + pages)
+            file.write(elf(START, pages, len(pages)))
         os.chmod(name, 0o700)
         with socket.socket() as probe:
             probe.bind(("127.0.0.1", 0))
@@ -517,7 +539,7 @@ def check_qemu(program, words, number_of_runs, spoil):
         for k in range(number_of_runs):
             run = [words.straight() for _ in range(rng.choice((1, 1, 2, 3, 8, 20, 64)))]
             if rng.random() < .6:
-                run = run[:63] + [words.ending(False)]
+                run = run[:63] + [words.ending()]
             registers = values(rng)
             spoiled = spoil and k == number_of_runs // 2
             if spoiled:
@@ -700,18 +722,13 @@ def program_of_pairs(pairs):
     write = [addi(17, 0, 64), addi(10, 0, 1), addi(11, 8, 0), addi(12, 9, 0), ecall, 0x00A40433, 0x40A484B3]  # x8 += x10; x9 -= x10
     code += write + [bne_back(9, 0, len(write)), addi(17, 0, 93), addi(10, 0, 0), ecall]
     data = code_of(code).ljust(code_size, b"\0") + b"".join(struct.pack("<QQ", *pair) for pair in pairs)
-    header = struct.pack("<16sHHIQQQIHHHHHH", b"\x7fELF\x02\x01\x01", 2, 243, 1, base, 64, 0, 0, 64, 56, 1, 0, 0, 0)
-    segment = struct.pack("<IIQQQQQQ", 1, 7, 0x1000, base, base, len(data), len(data) + length, 0x1000)
-    return (header + segment).ljust(0x1000, b"\0") + data
+    return elf(base, data, len(data) + length)
 
 
 def results_by_qemu(program, pairs):
-    with tempfile.TemporaryDirectory() as folder:
-        name = os.path.join(folder, "pairs")
-        with open(name, "wb") as file:
-            file.write(program_of_pairs(pairs))
-        os.chmod(name, 0o700)
-        data = subprocess.run([program, name], stdout=subprocess.PIPE, check=True).stdout
+    data, status = under_qemu(program, program_of_pairs(pairs))
+    if status:
+        sys.exit(f"qemu ended with {status}")
     demand(len(data) == 8 * len(M) * len(pairs), "qemu wrote", len(data), "bytes")
     return list(struct.iter_unpack(f"<{len(M)}Q", data))
 
@@ -745,6 +762,38 @@ def check_pairs(program, rng, number_of_pairs, spoil):
     divided = sum(b in (0, M64) or b & 0xFFFFFFFF in (0, 0xFFFFFFFF) for _, b in pairs)
     print(f"pairs: {len(pairs)} pairs of operands, {divided} of them with a divisor of 0 or -1 at some width; {len(M)} words of M each, "
           f"{len(M) * len(pairs)} results the same")
+
+
+# ---- JALR's opcode with each funct3
+
+def program_of_jump(word):
+    """A RISC-V program, as an ELF file: the word, whose rs1 is not x0, and 0 as exit status where it jumps to rs1 + imm; 1 behind it."""
+    base, ecall = 0x10000, 0x00000073
+    leave = lambda status: [addi(17, 0, 93), addi(10, 0, status), ecall]
+    at_target = base + 0x100
+    code = lui_addi(word >> 15 & 31, at_target - signed(word >> 20, 12)) + [word] + leave(1)
+    return elf(base, code_of(code).ljust(at_target - base, b"\0") + code_of(leave(0)), 0x1000)
+
+
+def check_jumps(program, words, number_of_jumps, spoil):
+    front = [0x00500093]  # ADDI x1, x0, 5
+    alone = translate(code_of(front))
+    counts = {True: 0, False: 0}
+    for k in range(number_of_jumps):
+        word = words.word(0x67, k % 8, words.twelve())
+        if not word >> 15 & 31:
+            word |= 1 << 15
+        executed = word
+        if spoil and k == number_of_jumps // 2:
+            executed = word & ~(7 << 12) if k % 8 else word | 1 << 12
+        _, status = under_qemu(program, program_of_jump(executed))
+        if status not in (0, -signal.SIGILL):
+            sys.exit(f"qemu ended with {status} at {executed:#x}")
+        jumps = status == 0
+        demand(bool(translate(code_of([word]))) == jumps, "refused or not:", hex(word))
+        demand((translate(code_of(front + [word])) != alone) == jumps, "bytes of it or not:", hex(word))
+        counts[jumps] += 1
+    print(f"jumps: {counts[True]} words jump under qemu and are translated; {counts[False]} are illegal there, are not taken here, and leave no byte")
 
 
 def number_of_runs(text):
@@ -786,6 +835,10 @@ def parts(options):
         skipped("pairs", missing or "none is asked for")
     else:
         found.append(("pairs", lambda: check_pairs(qemu, random.Random(options.seed + 3), options.pairs, options.spoil)))
+    if options.jumps == 0 or missing:
+        skipped("jumps", missing or "none is asked for")
+    else:
+        found.append(("jumps", lambda: check_jumps(qemu, Words(random.Random(options.seed + 4)), options.jumps, options.spoil)))
     return found
 
 
@@ -796,6 +849,7 @@ def main():
     parser.add_argument("--runs", type=number_of_runs, default=1000, help="runs for qemu")
     parser.add_argument("--programs", type=number_of_runs, default=200, help="loops that change their code, for qemu")
     parser.add_argument("--pairs", type=number_of_runs, default=100000, help="random pairs of operands for M, besides the corners")
+    parser.add_argument("--jumps", type=number_of_runs, default=400, help="words of JALR's opcode, for qemu")
     parser.add_argument("--spoil", action="store_true", help="change one thing in each part, which must be noticed")
     options = parser.parse_args()
     if not os.access(TRANSLATE, os.X_OK):

@@ -3,7 +3,7 @@
 
     checks/replies.py ORACLE              compares crates/replay/stdout with what the original says
     checks/replies.py ORACLE --write      writes it
-    checks/replies.py ORACLE --changes    prints docs/changes/Q-5-replies.txt: the replies that request Q-5 changed
+    checks/replies.py ORACLE --changes    prints docs/changes/Q-6-replies.txt: the replies that request Q-6 changed
 
 ORACLE is a program over the original Rust that answers the request lines of crates/replay/stdin on its standard input, a line each; it
 is not in this repository. (`cargo test` in rust/, module `linked`, compares the same replies with rust/original, which is.) Needs GNU as
@@ -17,6 +17,9 @@ The rest of M (Q-2) the original does not take. So it is asked for the run with 
 eleven words, a straight word with the same two loads and the same store. Its reply says everything but what stands between loads and
 store; there it has the three bytes of ADD R10, R11, which are replaced by the word's body: muldiv.py's text, made bytes by GNU as. Where in
 a block they stand, the original says too: a word begins where the block of the words before it, asked for by itself, has its end.
+
+JALR with funct3 1 to 7 (Q-6), which the manual reserves, the original takes as JALR. So it is asked for the run with ECALL in the place of
+each of these words: that it does not take, and has no byte of it. Its reply says everything but, in number 4, the word itself.
 
 How many bytes a block spans (Q-5) the original does not say. Its reply says how many instructions the block has, and the run's halfwords how
 long each is, by the manual's "Base Instruction-Length Encoding".
@@ -49,6 +52,10 @@ LINE, LENT, RUN = 8192, 65536, 2048
 GREATEST = 4099
 OPENING, END, LOADS = 32, 35, 14
 ADD = bytes.fromhex("4d01da")
+# Lines of stdin that came with Q-6.
+NEW = range(3659, 3676)
+# The word that stands in for a reserved JALR.
+ECALL = 0x00000073
 
 
 def is_request(line):
@@ -61,35 +68,49 @@ def is_request(line):
     return bool(DECODING.fullmatch(line))
 
 
+def words(halfwords):
+    """The words of a run, up to a compressed halfword, which ends every block."""
+    for at in range(0, len(halfwords) - 1, 2):
+        if halfwords[at] & 3 != 3:
+            break
+        yield halfwords[at + 1] << 16 | halfwords[at]
+
+
 def is_fence_i(word):
     return word & 0x7F == 0x0F and word >> 12 & 7 == 1
 
 
 def cut(halfwords):
     """The run up to its first FENCE.I, that word included; a compressed halfword ends every block, so nothing is sought behind one."""
-    for at in range(0, len(halfwords) - 1, 2):
-        if halfwords[at] & 3 != 3:
-            break
-        if is_fence_i(halfwords[at + 1] << 16 | halfwords[at]):
-            return halfwords[:at + 2]
+    for index, word in enumerate(words(halfwords)):
+        if is_fence_i(word):
+            return halfwords[:2 * index + 2]
     return halfwords
 
 
+def is_reserved_jalr(word):
+    return word & 0x7F == 0x67 and word >> 12 & 7 != 0
+
+
 def stand_in(word):
-    """ADD with rd, rs1 and rs2 of a word."""
-    return word & 0x01FF8F80 | muldiv.OP
+    """ADD with rd, rs1 and rs2 of a word, for one of the eleven; ECALL for a reserved JALR; the word itself for all others."""
+    if muldiv.key(word):
+        return word & 0x01FF8F80 | muldiv.OP
+    return ECALL if is_reserved_jalr(word) else word
 
 
-def with_stand_ins(halfwords):
-    """The run with ADD for each of the eleven, and which words these are: index, and opcode and funct3."""
+def stand_in_before(word):
+    """The same before Q-6."""
+    return word if is_reserved_jalr(word) else stand_in(word)
+
+
+def with_stand_ins(halfwords, standing_in):
+    """The run with stand-ins, and which words are of the eleven: index, and opcode and funct3."""
     run, found = list(halfwords), []
-    for at in range(0, len(halfwords) - 1, 2):
-        if halfwords[at] & 3 != 3:
-            break
-        word = halfwords[at + 1] << 16 | halfwords[at]
+    for index, word in enumerate(words(halfwords)):
         if muldiv.key(word):
-            found.append((at // 2, muldiv.key(word)))
-            run[at:at + 2] = stand_in(word) & 0xFFFF, stand_in(word) >> 16
+            found.append((index, muldiv.key(word)))
+        run[2 * index:2 * index + 2] = standing_in(word) & 0xFFFF, standing_in(word) >> 16
     return run, found
 
 
@@ -104,11 +125,11 @@ def spanned(count, halfwords):
 class Translation:
     """A T line: its fields, its run, and that cut behind a FENCE.I and with stand-ins."""
 
-    def __init__(self, line):
+    def __init__(self, line, standing_in):
         _, self.start, self.limit, self.helper16, self.helper_mem, output, run = line.split(" ")
         self.output = int(output)
         self.whole = [] if run == "-" else [int(field, 16) for field in run.split(",")]
-        self.run, self.rest = with_stand_ins(cut(self.whole))
+        self.run, self.rest = with_stand_ins(cut(self.whole), standing_in)
 
     def request(self, run, limit=None):
         """By an output that is long enough for the original's blocks; number 5 is this side's."""
@@ -145,9 +166,9 @@ def with_bodies(reply, places, bodies):
     return f"block {len(put)} {reply.split(' ')[2]} {put.hex()}"
 
 
-def translations(oracle, lines):
+def translations(oracle, lines, standing_in=stand_in):
     """The replies to translations' lines."""
-    asked = [Translation(line) for line in lines]
+    asked = [Translation(line, standing_in) for line in lines]
     stood_in = answered(oracle, [t.request(t.run) for t in asked])
     fronts = [t.fronts(reply) for t, reply in zip(asked, stood_in)]
     requests = [request for front in fronts for request, _ in front if request]
@@ -159,32 +180,36 @@ def translations(oracle, lines):
         if reply.startswith("block"):
             span = spanned(int(reply.split(" ")[2]), t.whole)
             reply = f"{with_bodies(reply, places, bodies)} {span}" if t.output >= GREATEST else "5"
+        elif reply == f"4 {ECALL:08x}":
+            reply = f"4 {next(words(t.whole)):08x}"
         replies.append(reply)
     return replies
 
 
 HEADING = """\
-Replies of crates/replay that Q-5 changed: each block's has its span behind it, how many bytes of the guest's code it spans from its start. The
-old reply is 'block', length, count and bytes; the new one is the old one with a blank and the span behind. These are {blocks:,}: line of stdin,
-count, span. Lines 1 to 3400 are the corpus; lines 3646 to 3658 are 13 new ones, with no old reply. Other replies to T, P and D lines stay.
+Replies of crates/replay that Q-6 changed, those to runs whose block met JALR's opcode with funct3 1 to 7. These {number} follow: line of stdin, old
+reply, new reply; for a block its length, count and span. Lines 1 to 3400 are the corpus; lines {first} to {last} are new, with no old reply.
 
-The count is the original Rust's, to the run cut behind a FENCE.I and with ADD in the place of each word of the rest of M. The span is the
-bytes of so many instructions at the front of the run, 4 where the low two bits of an instruction's first halfword are 11, else 2, by the
-manual's "Base Instruction-Length Encoding". All by checks/replies.py, which shares no code with this port; the whole bytes are in
+The old reply is the original Rust's, to the run cut behind a FENCE.I and with ADD in the place of each word of the rest of M. The new one is the
+original Rust's to the same with ECALL besides in the place of each word with opcode 1100111 and funct3 1 to 7: ECALL it does not take, and has no
+byte of it. In number 4 stands the word itself. All by checks/replies.py, which shares no code with this port; the whole bytes are in
 crates/replay/stdout.
-
-I lines are all made anew by checks/index.py: {indexing:,}, and 977 before. A length and a span stand behind the count now. So of the old lines
-39 sets and 373 inserts are no requests any more, since they have too few numbers, and 101 replies lack two numbers of each entry that they
-show. 'I drop' was no request.
 
 """
 
 
-def rows(replies):
-    """Line, count and span of each block, so many to a row."""
-    blocks = [(k + 1, reply.split(" ")) for k, reply in enumerate(replies) if reply.startswith("block")]
-    told = [f"{line}: {count} {span}" for line, (_, _, count, _, span) in blocks]
-    return len(told), [", ".join(told[k:k + 10]) for k in range(0, len(told), 10)]
+def told(reply):
+    """A block without its bytes."""
+    fields = reply.split(" ")
+    return " ".join(fields[:3] + fields[4:]) if fields[0] == "block" else reply
+
+
+def changes(oracle, lines):
+    """A row for each translation that has another reply than before."""
+    asked = [(k + 1, line) for k, line in enumerate(lines) if line.startswith("T ") and is_request(line)]
+    texts = [line for _, line in asked]
+    before, after = translations(oracle, texts, stand_in_before), translations(oracle, texts)
+    return [f"{k}: {told(old)} -> {told(new)}" for (k, _), old, new in zip(asked, before, after) if old != new and k not in NEW]
 
 
 def replies_to(oracle, lines):
@@ -205,12 +230,12 @@ def main():
         sys.exit(__doc__)
     with open(os.path.join(REPLAY, "stdin"), encoding="ascii") as file:
         lines = file.read().removesuffix("\n").split("\n")
-    replies, asked = replies_to(sys.argv[1], lines)
-    blocks, told = rows(replies)
     if sys.argv[2:] == ["--changes"]:
-        indexing = sum(line[:2].upper() == "I " for line in lines)
-        print(HEADING.format(blocks=blocks, indexing=indexing) + "\n".join(told))
+        rows = changes(sys.argv[1], lines)
+        print(HEADING.format(number=len(rows), first=NEW[0], last=NEW[-1]) + "\n".join(rows))
         return 0
+    replies, asked = replies_to(sys.argv[1], lines)
+    blocks = sum(reply.startswith("block") for reply in replies)
     print(f"{len(lines)} lines, {asked} of them asked of the original; {blocks} replies are blocks")
     text = "".join(reply + "\n" for reply in replies)
     path = os.path.join(REPLAY, "stdout")

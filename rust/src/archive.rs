@@ -19,6 +19,7 @@ pub(crate) struct CodeCache {
 }
 
 extern "C" {
+    pub(crate) fn emuko_rules() -> u32;
     pub(crate) fn emuko_word_kind(instr: u32) -> u32;
     pub(crate) fn emuko_translate(
         start: u64,

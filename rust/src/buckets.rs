@@ -67,7 +67,8 @@ impl<E: AsRef<[Entry]> + AsMut<[Entry]>> BucketIndex<E> {
         BucketIndex::filled_elsewhere(entries, size)
     }
 
-    /// The same over entries that were filled elsewhere: those in use stay in use.
+    /// The same over entries that were filled elsewhere: those in use stay in use. Entries that were filled under other
+    /// [`rules`](crate::rules) are [emptied](crate#an-index-made-before) first.
     ///
     /// A key is looked for in its [`bucket`](BucketIndex::bucket) alone, so entries that stand elsewhere are not found. Those that an
     /// index of the same number of entries and the same size gave back stand where they are looked for. Which bucket a key has may

@@ -189,6 +189,9 @@ pub(crate) fn clear_marks(entries: &mut [Entry]) {
 /// # Ok::<(), emuko_x64_blocks::PlaceRefusal>(())
 /// ```
 ///
+/// Where entries outlive the archive that made their blocks, and the [`rules`](crate::rules) are others now, they are emptied once:
+/// [An index made before](crate#an-index-made-before).
+///
 /// # What it costs
 ///
 /// [`find`](BlockIndex::find) is a scan: it looks at one entry after the other, up to the first that has the key, and at all of them
@@ -218,7 +221,8 @@ impl<E: AsRef<[Entry]> + AsMut<[Entry]>> BlockIndex<E> {
     /// An index of entries that were filled elsewhere: those in use stay in use.
     ///
     /// They may hold a key twice, which an index that began with none in use never does. The first entry in use that has the key then
-    /// counts, for [`find`](BlockIndex::find) and for [`insert`](BlockIndex::insert); the other one stays as it is.
+    /// counts, for [`find`](BlockIndex::find) and for [`insert`](BlockIndex::insert); the other one stays as it is. Entries that were filled
+    /// under other [`rules`](crate::rules) are [emptied](crate#an-index-made-before) first.
     ///
     /// ```
     /// use emuko_x64_blocks::{BlockIndex, Entry, NativeBlock};

@@ -81,6 +81,53 @@
 //! # Ok::<(), Box<dyn Error>>(())
 //! ```
 //!
+//! # An index made before
+//!
+//! Entries and store can outlive the archive that made their blocks, as where a library is exchanged and its caller's memory stays. Then an
+//! index can show another block than the one that its code is translated to now. [`rules`] tells by which rules the archive translates, a
+//! number that grows with every change to them. An index that was made under others, or of which it is not known under which, is emptied
+//! once, before its next use:
+//!
+//! ```
+//! use emuko_x64_blocks::{rules, BlockIndex, CodeStore, Entry, NativeBlock};
+//!
+//! struct Kept {
+//!     store: CodeStore<[u8; 4096]>,
+//!     index: BlockIndex<[Entry; 2]>,
+//!     /// Under which rules the index was made, where that is known.
+//!     rules: Option<u32>,
+//! }
+//!
+//! impl Kept {
+//!     fn use_again(&mut self) {
+//!         if self.rules != Some(rules()) {
+//!             self.index.empty(&mut self.store);
+//!             self.rules = Some(rules());
+//!         }
+//!     }
+//! }
+//!
+//! // JALR x0, 0(x1) with funct3 1, of which an earlier archive made a block of 81 bytes.
+//! let block = NativeBlock { offset: 0, count: 1, length: 81, span: 4 };
+//! let mut kept = Kept {
+//!     store: CodeStore::with_mark([0; 4096], 81),
+//!     index: BlockIndex::new([Entry::default(); 2]),
+//!     rules: None,
+//! };
+//! kept.index.insert(0, 0x8000_0000, block)?;
+//! kept.use_again();
+//! assert_eq!((kept.index.find(0, 0x8000_0000), kept.store.mark()), (None, 0));
+//! // What is inserted from then on stays.
+//! kept.index.insert(0, 0x8000_0000, block)?;
+//! kept.use_again();
+//! assert!(kept.index.find(0, 0x8000_0000).is_some());
+//! # Ok::<(), emuko_x64_blocks::InsertRefusal>(())
+//! ```
+//!
+//! The rules of this version are 6: JALR with funct3 1 to 7, which the RISC-V manual reserves, is no longer taken (request Q-6 of the
+//! repository's docs). Version 0.3.0 and those before it had no number, and took it as JALR; the entries of those before 0.3.0 have another
+//! size and are made anew. Blocks hold the addresses of their helpers: where these have moved, an index is emptied whatever the rules.
+//!
 //! # Code that changes
 //!
 //! A block does what the guest's code says as long as that has not changed in the bytes that the block spans, which are those of the
@@ -170,7 +217,7 @@ pub use entry::{block_fn, BlockFn, BlockResult, HelperFn, Helpers};
 pub use index::{BlockIndex, Entry, InsertRefusal, NativeBlock};
 pub use placing::{place, CodeStore, PlaceRefusal, Placed};
 pub use run::{word_kind, Run, WordKind};
-pub use translation::{translate, Block, Refusal, Request};
+pub use translation::{rules, translate, Block, Refusal, Request};
 
 /// The greatest length of a block in bytes: sixty-four times DIVW. An output of this length is never too short, and a shorter one always
 /// is, whatever the block.

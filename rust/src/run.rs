@@ -29,6 +29,8 @@ pub enum WordKind {
 /// assert_eq!(word_kind(0x0000_100F), WordKind::Ending); // FENCE.I
 /// assert_eq!(word_kind(0x0000_B083), WordKind::MemoryHelper); // LD x1, 0(x1)
 /// assert_eq!(word_kind(0x0000_0073), WordKind::NotTaken); // ECALL
+/// assert_eq!(word_kind(0x0000_8067), WordKind::Ending); // JALR x0, 0(x1)
+/// assert_eq!(word_kind(0x0000_9067), WordKind::NotTaken); // the same with funct3 1, which is reserved
 /// ```
 #[must_use]
 #[inline]

@@ -171,6 +171,17 @@ impl fmt::Display for Refusal {
 
 impl Error for Refusal {}
 
+/// By which rules the archive translates: a number that grows with every change to what a run is translated to. It is 6 where JALR with
+/// funct3 1 to 7, which the RISC-V manual reserves, is not taken.
+///
+/// An index of blocks that was made under other rules is to be emptied: [An index made before](crate#an-index-made-before).
+#[must_use]
+#[inline]
+pub fn rules() -> u32 {
+    // SAFETY: The function takes nothing and returns a number.
+    unsafe { archive::emuko_rules() }
+}
+
 /// Translates a run of halfwords into a block at the front of `out`. Behind the block, and everywhere if refused, `out` is as before.
 ///
 /// ```

@@ -1,10 +1,12 @@
-//! Random requests: replies and every byte of the output against the original Rust, whose run is cut behind a FENCE.I (module `fence_i`)
-//! and has stand-ins for the rest of M (module `rest_of_m`).
+//! Random requests: replies and every byte of the output against the original Rust, whose run is cut behind a FENCE.I and has stand-ins
+//! (module `judged`).
 
 use crate::fence_i::words_to_fence_i;
+use crate::judged::judged;
 use crate::random::Random;
 use crate::requests::{self, Lent, Wanted};
-use crate::rest_of_m::{first_of_the_rest, judged};
+use crate::reserved_jalr::{ends_block, first_reserved};
+use crate::rest_of_m::first_of_the_rest;
 use crate::spans;
 use crate::words;
 use emuko_original::{Answer, Emuko, Original, CODE_SIZE};
@@ -80,7 +82,7 @@ impl Comparison {
         reply
     }
 
-    /// What becomes of a word by the original's own matches, in which FENCE.I is straight and the rest of M is not taken.
+    /// What becomes of a word by the original's own matches, in which FENCE.I is straight, the rest of M is not taken and JALR has any funct3.
     pub fn kind(&mut self, word: u32) -> u32 {
         self.original.kind(word, &mut self.bytes)
     }
@@ -103,6 +105,8 @@ struct Seen {
     by_fence_i: [u32; 2],
     /// Blocks that hold none of the rest of M, have one of it as their first word, and have one behind others.
     rest_of_m: [u32; 3],
+    /// JALR's opcode with a reserved funct3: as the first word, and where it ends a block.
+    reserved_jalr: [u32; 2],
 }
 
 impl Seen {
@@ -115,10 +119,11 @@ impl Seen {
             missing: [0; 2],
             by_fence_i: [0; 2],
             rest_of_m: [0; 3],
+            reserved_jalr: [0; 2],
         }
     }
 
-    fn add(&mut self, halfwords: &[u16], reply: Result<Size, Refusal>) {
+    fn add(&mut self, halfwords: &[u16], limit: u32, reply: Result<Size, Refusal>) {
         match reply {
             Ok(block) => {
                 self.counts[block.count as usize] += 1;
@@ -133,13 +138,19 @@ impl Seen {
                     _ => 0,
                 };
                 self.rest_of_m[which] += 1;
+                self.reserved_jalr[1] += ends_block(halfwords, count, limit) as u32;
                 self.greatest += (block.length == GREATEST_BLOCK) as u32;
                 self.original_greatest += (block.length == 2243) as u32;
             }
             Err(refusal) => {
                 self.refusals[refusal.number() as usize] += 1;
-                if let Refusal::MissingHalfword(index) = refusal {
-                    self.missing[index as usize] += 1;
+                match refusal {
+                    Refusal::MissingHalfword(index) => self.missing[index as usize] += 1,
+                    Refusal::NotTaken(_) => {
+                        let first = first_reserved(halfwords) == Some(0);
+                        self.reserved_jalr[0] += first as u32;
+                    }
+                    _ => {}
                 }
             }
         }
@@ -153,7 +164,8 @@ fn random_requests(seed: u64, number: u32) {
     for _ in 0..number {
         let wanted = requests::wanted(&mut r);
         let reply = comparison.wanted(&wanted);
-        seen.add(wanted.request().halfwords, reply);
+        let request = wanted.request();
+        seen.add(request.halfwords, request.limit, reply);
     }
     println!("{seen:?}");
     assert!(seen.counts[1..].iter().all(|n| *n > 0), "{seen:?}");
@@ -162,6 +174,7 @@ fn random_requests(seed: u64, number: u32) {
     assert!(seen.missing.iter().all(|n| *n > 100), "{seen:?}");
     assert!(seen.by_fence_i.iter().all(|n| *n > 20_000), "{seen:?}");
     assert!(seen.rest_of_m.iter().all(|n| *n > 50_000), "{seen:?}");
+    assert!(seen.reserved_jalr.iter().all(|n| *n > 1_000), "{seen:?}");
 }
 
 #[test]

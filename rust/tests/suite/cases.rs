@@ -1,6 +1,6 @@
-//! Document 01's cases and those of requests, one by one.
+//! Document 01's cases and those of requests, one by one.
 
-use crate::archive::{emuko_place, emuko_translate, emuko_word_kind, Reply};
+use crate::archive::{emuko_place, emuko_rules, emuko_translate, emuko_word_kind, Reply};
 use crate::words::halves;
 use emuko_x64_blocks::{
     place, translate, word_kind, Helpers, PlaceRefusal, Refusal, Request, WordKind, GREATEST_BLOCK,
@@ -255,10 +255,18 @@ fn shifts() {
     assert_eq!(refusal(&[0x909B, 0x0200]), Refusal::NotTaken(0x0200_909B));
 }
 
+/// JALR x0, 0(x1), and its reserved funct3, which are not taken; behind ADDI nothing is left of them, not even the load of x1.
 #[test]
-fn jalr_of_any_funct3() {
-    for funct3 in 0..8 {
-        assert_eq!(size(&[0x8067 | funct3 << 12, 0x0000]), (81, 1));
+fn jalr() {
+    assert_eq!(size(&[0x8067, 0x0000]), (81, 1));
+    let (addi, count) = reply(START, 64, &ADDI).unwrap();
+    assert_eq!((addi.len(), count), (88, 1));
+    assert_eq!(addi[53..63], rax(START + 4));
+    for funct3 in 1..8 {
+        let low = 0x8067 | funct3 << 12;
+        assert_eq!(refusal(&[low, 0x0000]), Refusal::NotTaken(low.into()));
+        let run = [&ADDI[..], &[low, 0x0000]].concat();
+        assert_eq!(reply(START, 64, &run), Ok((addi.clone(), 1)));
     }
 }
 
@@ -432,8 +440,9 @@ fn values_that_a_reply_lacks() {
     assert_eq!(placed(9), (6, 0, 0, 0));
     assert_eq!(placed(5), (7, 0, 0, 0));
     assert_eq!(placed(1), (0, 4, 8, 0));
-    // SAFETY: Any number may be passed.
-    assert_eq!(unsafe { emuko_word_kind(0x0000_100F) }, 2);
+    // SAFETY: Any number may be passed to the first; the second takes none.
+    let (kind, rules) = unsafe { (emuko_word_kind(0x0000_100F), emuko_rules()) };
+    assert_eq!((kind, rules), (2, 6));
 }
 
 /// The numbers of the kinds, and a word of each.
@@ -453,4 +462,6 @@ fn kinds_of_words() {
     assert_eq!(word_kind(0x0000_100F), WordKind::Ending);
     assert_eq!(word_kind(0x0220_91B3), WordKind::Straight); // MULH
     assert_eq!(word_kind(0x0220_91BB), WordKind::NotTaken);
+    assert_eq!(word_kind(0x0000_8067), WordKind::Ending); // JALR x0, 0(x1)
+    assert_eq!(word_kind(0x0000_9067), WordKind::NotTaken);
 }

@@ -3,6 +3,7 @@
 
 use crate::random::Random;
 use crate::requests;
+use crate::runs::{asked, words, END};
 use emuko_original::{Answer, Emuko, Original, CODE_SIZE};
 
 /// By opcode and funct3, whatever the other fields.
@@ -13,16 +14,8 @@ pub fn is_fence_i(word: u32) -> bool {
 /// How many words lead to the first FENCE.I of a run, that word included. A compressed halfword ends every block, so none is sought
 /// behind one; one that stands behind another end is never met, and then the number does not matter.
 pub fn words_to_fence_i(halfwords: &[u16]) -> Option<usize> {
-    for (k, word) in halfwords.chunks_exact(2).enumerate() {
-        let [low, high] = [u32::from(word[0]), u32::from(word[1])];
-        if low & 3 != 3 {
-            return None;
-        }
-        if is_fence_i(high << 16 | low) {
-            return Some(k + 1);
-        }
-    }
-    None
+    let found = words(halfwords).position(is_fence_i);
+    found.map(|before| before + 1)
 }
 
 /// The run up to its first FENCE.I, that word included, or all of it.
@@ -41,18 +34,10 @@ pub fn limit_to_fence_i(halfwords: &[u16], limit: u32) -> u32 {
     }
 }
 
-/// The original's answer and bytes.
-fn asked(original: &mut Original, start: u64, limit: u32, run: &[u16]) -> (Answer, Vec<u8>) {
-    let mut bytes = Vec::new();
-    let answer = original.translate(start, limit, run, [1, 2], &mut bytes);
-    (answer, bytes)
-}
-
 /// What the cut does to the original's answers. Nothing where the block ends before the FENCE.I; where it is met, the block is the front
 /// of what it was, behind which RAX, RDX and the closing follow. A limit does the same as the cut.
 #[test]
 fn cut_where_met_and_where_not() {
-    const END: usize = 10 + 10 + 15;
     let mut r = Random::new(60);
     let mut original = Original::new(CODE_SIZE);
     let (mut met, mut not_met) = (0, 0);

@@ -1,10 +1,11 @@
 //! The first word's kind: taken, not taken or by a helper, and the block's bytes, against the original Rust. Of the 2^32 words all
 //! values of opcode, funct3 and funct7 are tried with each register field at its limits, and every compressed halfword.
-//! Of another kind than in the original are FENCE.I (request Q-1) and the rest of M.
+//! Of another kind than in the original are FENCE.I (request Q-1), the rest of M and JALR's opcode with funct3 1 to 7.
 
 use crate::against_original::{Comparison, Size};
 use crate::fence_i::is_fence_i;
 use crate::random::Random;
+use crate::reserved_jalr::is_reserved_jalr;
 use crate::rest_of_m::rest_of_m;
 use crate::words;
 use emuko_x64_blocks::{word_kind, Helpers, Refusal, Request, WordKind, GREATEST_BLOCK};
@@ -15,8 +16,9 @@ const HELPERS: Helpers = Helpers {
     memory: 0x99AA_BBCC_DDEE_FF00,
 };
 
-/// The word's kind, as the original's matches have it, but for FENCE.I, which is straight there and ends its block here, and for the rest
-/// of M, which is not taken there and straight here; the translation of the word alone tells whether it is taken.
+/// The word's kind, as the original's matches have it, but for FENCE.I, which is straight there and ends its block here, for the rest
+/// of M, which is not taken there and straight here, and for JALR with a reserved funct3, which ends its block there and is not taken here;
+/// the translation of the word alone tells whether it is taken.
 fn kind(comparison: &mut Comparison, start: u64, word: u32) -> WordKind {
     let kind = word_kind(word);
     let original = comparison.kind(word);
@@ -26,6 +28,9 @@ fn kind(comparison: &mut Comparison, start: u64, word: u32) -> WordKind {
     } else if rest_of_m(word).is_some() {
         assert_eq!(original, WordKind::NotTaken as u32, "{word:08x}");
         assert_eq!(kind, WordKind::Straight, "{word:08x}");
+    } else if is_reserved_jalr(word) {
+        assert_eq!(original, WordKind::Ending as u32, "{word:08x}");
+        assert_eq!(kind, WordKind::NotTaken, "{word:08x}");
     } else {
         assert_eq!(kind as u32, original, "{word:08x}");
     }
@@ -98,8 +103,8 @@ fn words_by_field() {
     // 1 of OP_IMM_32; the shifts of OP_IMM, whose six upper bits leave two funct7 each; 3 exact ones of OP_IMM_32; OP has ten base
     // words and all eight of M, OP_32 five and five.
     let straight = 2 * 1024 + (1 + 6 + 1) * 128 + 3 * 2 + 3 + (10 + 8) + (5 + 5);
-    // JAL and JALR all, branches 6 funct3 of 8, FENCE.I 1; loads 7, stores 4.
-    let ending = 2 * 1024 + (6 + 1) * 128;
+    // JAL all, JALR 1 funct3 of 8, branches 6, FENCE.I 1; loads 7, stores 4.
+    let ending = 1024 + (1 + 6 + 1) * 128;
     let memory = (7 + 4) * 128;
     let not_taken = 32 * 1024 - straight - ending - memory;
     let pairs = [not_taken, straight, ending, memory];
@@ -122,7 +127,7 @@ fn every_word() {
     // For each opcode there are 2^25 words, 2^22 for one funct3 and 2^15 for a funct7 besides; the shifts that have six upper bits
     // fixed are 2^16. The numbers are those of `words_by_field`.
     let straight = (2 << 25) + ((1 + 6 + 1) << 22) + (3 << 16) + ((3 + 18 + 10) << 15);
-    let ending = (2 << 25) + ((6 + 1) << 22);
+    let ending = (1 << 25) + ((1 + 6 + 1) << 22);
     let memory = (7 + 4) << 22;
     assert_eq!(count[1..], [straight, ending, memory]);
     assert_eq!(count.iter().sum::<u32>(), 1 << 30);

@@ -1,13 +1,16 @@
 //! emuko with `compile_native_block` over this crate, against the original emulator: replies, and everything else that can be seen
 //! behind a call. FENCE.I ends its block in the linked one alone, so the original is given the run cut behind it or, where it fetches from
-//! memory, a limit by which it ends there too (module `fence_i`). The rest of M is taken by the linked one alone, so the original is given
-//! stand-ins, and their bodies are put into its block (module `rest_of_m`). What it then does is all compared. Left out is what the
-//! original does behind a FENCE.I and at a word of the rest of M, which the tests `behind_fence_i` and `at_div` show.
+//! memory, a limit by which it ends there too (module `fence_i`). The rest of M is taken by the linked one alone, and JALR with a reserved
+//! funct3 by the original alone, so the original is given stand-ins, and the bodies of the rest of M are put into its block (module
+//! `judged`). What it then does is all compared. Left out is what the original does behind a FENCE.I, at a word of the rest of M and at a
+//! reserved JALR, which the tests `behind_fence_i`, `at_div` and `at_a_reserved_jalr` show.
 
 use crate::fence_i::{cut, limit_to_fence_i, words_to_fence_i};
+use crate::judged::{judged, with_stand_ins};
 use crate::random::Random;
 use crate::requests::{self, Wanted};
-use crate::rest_of_m::{first_of_the_rest, judged, put_bodies, with_stand_ins};
+use crate::reserved_jalr::{ends_block, first_reserved};
+use crate::rest_of_m::{first_of_the_rest, put_bodies};
 use crate::spans;
 use crate::words;
 use emuko_original::{Access, Answer, Compiled, Emuko, Linked, Memory, Original, CODE_SIZE};
@@ -193,7 +196,7 @@ fn corpus_translation(wanted: &Wanted, both: &mut Both) -> String {
     }
 }
 
-/// The 3,400 requests that came with the original, and 258 more, which the program replay is run on too; behind them stand lines that are
+/// The 3,400 requests that came with the original, and 275 more, which the program replay is run on too; behind them stand lines that are
 /// no requests.
 #[test]
 fn corpus() {
@@ -207,7 +210,7 @@ fn corpus() {
         assert_eq!(corpus_reply(request, &mut both), reply, "{request}");
         kinds["TPD".find(&request[..1]).unwrap()] += 1;
     }
-    assert_eq!(kinds, [3397, 201, 60]);
+    assert_eq!(kinds, [3414, 201, 60]);
 }
 
 #[test]
@@ -419,10 +422,12 @@ struct Seen {
     crossing: u32,
     by_fence_i: u32,
     of_the_rest: u32,
+    /// A reserved JALR as the first word, by which the pc is failed, and where it ends a block.
+    reserved_jalr: [u32; 2],
 }
 
 impl Seen {
-    fn add(&mut self, compiled: &Compiled, run: &[u16], memory: &Memory) {
+    fn add(&mut self, compiled: &Compiled, run: &[u16], limit: u32, memory: &Memory) {
         match compiled.result {
             Ok(Some((_, count))) => {
                 let count = count as usize;
@@ -430,8 +435,12 @@ impl Seen {
                 self.by_fence_i += (words_to_fence_i(run) == Some(count)) as u32;
                 let met = first_of_the_rest(run).is_some_and(|first| first < count);
                 self.of_the_rest += met as u32;
+                self.reserved_jalr[1] += ends_block(run, count, limit) as u32;
             }
-            Ok(None) => {}
+            Ok(None) => {
+                let first = compiled.failed && first_reserved(run) == Some(0);
+                self.reserved_jalr[0] += first as u32;
+            }
             Err(_) => self.traps += 1,
         }
         self.crossing += fetches(memory).iter().any(|addr| *addr < FIRST) as u32;
@@ -458,7 +467,7 @@ fn random_pages() {
         for _ in 0..1 + r.below(2) {
             let compiled;
             (compiled, memories) = both.compile(&memories, &run, pc, limit);
-            seen.add(&compiled, &run, &memories.linked);
+            seen.add(&compiled, &run, limit, &memories.linked);
             memories.forget_accesses();
         }
     }
@@ -469,6 +478,7 @@ fn random_pages() {
         seen.by_fence_i > 1_000 && seen.of_the_rest > 5_000,
         "{seen:?}"
     );
+    assert!(seen.reserved_jalr.iter().all(|n| *n > 20), "{seen:?}");
 }
 
 /// What one of them compiles at the end of a page, the next one being mapped, and the memory behind it.
@@ -510,6 +520,30 @@ fn at_div() {
     assert_eq!(linked.used, 67 + 55 + 21);
     assert_eq!(fetches(&memory).len(), 6);
     assert!(accessed(&memory, 1));
+}
+
+/// JALR's opcode with funct3 1: the original has a block for it; the linked one fetches it, refuses it and marks its pc as failed. Behind
+/// ADDI both fetch it too, and the linked one's block ends before it, without a byte of it.
+#[test]
+fn at_a_reserved_jalr() {
+    let reserved = [0x9067, 0x0000, 0x0000, 0x0000];
+    let behind = [0x0093, 0x0050, 0x9067, 0x0000];
+    for (run, original, linked, used, fetched) in [
+        (reserved, (0, 1), None, [81, 0], 2),
+        (behind, (0, 2), Some((0, 1)), [102, 88], 4),
+    ] {
+        let (by_original, memory) = at_the_end_of_a_page::<Original>(&run);
+        assert_eq!(by_original.result, Ok(Some(original)));
+        assert_eq!((by_original.failed, by_original.used), (false, used[0]));
+        assert_eq!(fetches(&memory).len(), fetched);
+        let (by_linked, memory) = at_the_end_of_a_page::<Linked>(&run);
+        assert_eq!(by_linked.result, Ok(linked));
+        assert_eq!(
+            (by_linked.failed, by_linked.used),
+            (linked.is_none(), used[1])
+        );
+        assert_eq!(fetches(&memory).len(), fetched);
+    }
 }
 
 /// Nothing is fetched, and the last access stays, where the limit is 0, the pc is odd or the translator is not enabled.

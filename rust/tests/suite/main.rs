@@ -20,7 +20,7 @@ mod fence_i;
 mod in_c;
 mod index;
 mod index_random;
-#[cfg(all(target_arch = "x86_64", target_os = "linux"))]
+mod judged;
 #[cfg(all(target_arch = "x86_64", target_os = "linux"))]
 mod kept;
 mod kinds;
@@ -34,7 +34,9 @@ mod placing;
 mod random;
 mod readme;
 mod requests;
+mod reserved_jalr;
 mod rest_of_m;
 mod run;
+mod runs;
 mod spans;
 mod words;

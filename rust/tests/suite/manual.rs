@@ -65,7 +65,7 @@ fn bits(word: u32, high: u32, low: u32) -> u32 {
     (word >> low) & (((1u64 << (high - low + 1)) - 1) as u32)
 }
 
-/// The instruction set listings. JALR has any funct3, and the other fields of fences are ignored, as document 01 has it.
+/// The instruction set listings; the other fields of fences are ignored, as the manual and document 01 have it.
 fn name(word: u32) -> Option<Name> {
     use Name::*;
     let (funct3, funct7) = (bits(word, 14, 12), bits(word, 31, 25));
@@ -73,7 +73,7 @@ fn name(word: u32) -> Option<Name> {
         (0b0110111, _) => Lui,
         (0b0010111, _) => Auipc,
         (0b1101111, _) => Jal,
-        (0b1100111, _) => Jalr,
+        (0b1100111, 0b000) => Jalr,
         (0b1100011, 0b000) => Beq,
         (0b1100011, 0b001) => Bne,
         (0b1100011, 0b100) => Blt,

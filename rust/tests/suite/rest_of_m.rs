@@ -6,10 +6,10 @@
 use crate::fence_i::cut;
 use crate::random::Random;
 use crate::requests;
+use crate::runs::{asked, replaced, words, END};
 use crate::words::halves;
 use emuko_original::{Answer, Emuko, Original, CODE_SIZE};
 use emuko_x64_blocks::{translate, Request, GREATEST_BLOCK};
-use std::borrow::Cow;
 
 const OP: u32 = 0x33;
 const OP_32: u32 = 0x3B;
@@ -176,36 +176,14 @@ const ADD: [u8; 3] = [0x4D, 0x01, 0xDA];
 const OPENING: usize = 32;
 const LOADS: usize = 14;
 
-/// ADD with rd, rs1 and rs2 of a word.
-fn stand_in(word: u32) -> u32 {
-    word & 0x01FF_8F80 | OP
-}
-
-/// The words of a run, up to a compressed halfword, behind which no block goes on.
-fn words(halfwords: &[u16]) -> impl Iterator<Item = u32> + '_ {
-    let words = halfwords.chunks_exact(2);
-    words
-        .map(|word| u32::from(word[1]) << 16 | u32::from(word[0]))
-        .take_while(|word| word & 3 == 3)
+/// ADD with rd, rs1 and rs2 of a word, for one of the eleven.
+pub fn stand_in(word: u32) -> Option<u32> {
+    rest_of_m(word).map(|_| word & 0x01FF_8F80 | OP)
 }
 
 /// The index of the run's first word that is one of the eleven.
 pub fn first_of_the_rest(halfwords: &[u16]) -> Option<usize> {
     words(halfwords).position(|word| rest_of_m(word).is_some())
-}
-
-/// The run with a stand-in for each of the eleven.
-pub fn with_stand_ins(halfwords: &[u16]) -> Cow<'_, [u16]> {
-    if first_of_the_rest(halfwords).is_none() {
-        return Cow::Borrowed(halfwords);
-    }
-    let mut run = halfwords.to_vec();
-    for (k, word) in words(halfwords).enumerate() {
-        if rest_of_m(word).is_some() {
-            run[2 * k..2 * k + 2].copy_from_slice(&halves(stand_in(word)));
-        }
-    }
-    Cow::Owned(run)
 }
 
 /// `bytes` is the original's block of so many instructions of the run with stand-ins; each stand-in's body becomes that of the word it
@@ -217,45 +195,17 @@ pub fn put_bodies(original: &Original, halfwords: &[u16], count: u32, bytes: &mu
     let (mut put, mut emitted) = (Vec::with_capacity(GREATEST_BLOCK), Vec::new());
     let (mut at, mut copied) = (OPENING, 0);
     for word in words(halfwords).take(count as usize) {
-        let emits = match rest_of_m(word) {
-            None => word,
-            Some(which) => {
-                assert_eq!(bytes[at + LOADS..][..ADD.len()], ADD);
-                put.extend_from_slice(&bytes[copied..at + LOADS]);
-                put.extend_from_slice(BODIES[which]);
-                copied = at + LOADS + ADD.len();
-                stand_in(word)
-            }
-        };
-        original.kind(emits, &mut emitted);
+        if let Some(which) = rest_of_m(word) {
+            assert_eq!(bytes[at + LOADS..][..ADD.len()], ADD);
+            put.extend_from_slice(&bytes[copied..at + LOADS]);
+            put.extend_from_slice(BODIES[which]);
+            copied = at + LOADS + ADD.len();
+        }
+        original.kind(stand_in(word).unwrap_or(word), &mut emitted);
         at += emitted.len();
     }
     put.extend_from_slice(&bytes[copied..]);
     *bytes = put;
-}
-
-/// What the original answers to a run up to a FENCE.I, bodies put in: what has to come out here, number 5 apart.
-pub fn judged(
-    original: &mut Original,
-    start: u64,
-    limit: u32,
-    halfwords: &[u16],
-    helpers: [u64; 2],
-    bytes: &mut Vec<u8>,
-) -> Answer {
-    let run = with_stand_ins(cut(halfwords));
-    let answer = original.translate(start, limit, &run, helpers, bytes);
-    if let Answer::Block(count) = answer {
-        put_bodies(original, halfwords, count, bytes);
-    }
-    answer
-}
-
-/// The original's answer and bytes.
-fn asked(original: &mut Original, start: u64, limit: u32, run: &[u16]) -> (Answer, Vec<u8>) {
-    let mut bytes = Vec::new();
-    let answer = original.translate(start, limit, run, [0, 0], &mut bytes);
-    (answer, bytes)
 }
 
 /// Ours, of a block.
@@ -270,7 +220,6 @@ fn ours(start: u64, limit: u32, run: &[u16]) -> Vec<u8> {
 /// with stand-ins and ours are a continuation.
 #[test]
 fn stand_ins_where_met_and_where_not() {
-    const END: usize = 10 + 10 + 15;
     let mut r = Random::new(61);
     let mut original = Original::new(CODE_SIZE);
     let (mut met, mut met_first, mut not_met) = (0, 0, 0);
@@ -278,11 +227,11 @@ fn stand_ins_where_met_and_where_not() {
         let run = cut(&requests::run(&mut r)).to_vec();
         let (start, limit) = (requests::start(&mut r), requests::limit(&mut r));
         let Some(first) = first_of_the_rest(&run) else {
-            assert_eq!(with_stand_ins(&run), run);
+            assert_eq!(replaced(&run, stand_in), run);
             continue;
         };
         let (whole, whole_bytes) = asked(&mut original, start, limit, &run);
-        let (answer, bytes) = asked(&mut original, start, limit, &with_stand_ins(&run));
+        let (answer, bytes) = asked(&mut original, start, limit, &replaced(&run, stand_in));
         match answer {
             Answer::Block(_) if first == 0 => {
                 let word = words(&run).next().unwrap();
@@ -311,10 +260,19 @@ fn stand_ins_by_hand() {
     let mulh = halves(0x0220_91B3); // MULH x3, x1, x2
     let add = halves(0x0020_81B3); // ADD x3, x1, x2
     let run = |parts: &[&[u16]]| parts.concat();
-    assert_eq!(*with_stand_ins(&run(&[&addi, &mulh])), run(&[&addi, &add]));
+    assert_eq!(
+        *replaced(&run(&[&addi, &mulh]), stand_in),
+        run(&[&addi, &add])
+    );
     // REMUW x31, x30, x29; DIVW x0, x0, x0
-    assert_eq!(*with_stand_ins(&halves(0x03DF_7FBB)), halves(0x01DF_0FB3));
-    assert_eq!(*with_stand_ins(&halves(0x0200_403B)), halves(0x0000_0033));
+    assert_eq!(
+        *replaced(&halves(0x03DF_7FBB), stand_in),
+        halves(0x01DF_0FB3)
+    );
+    assert_eq!(
+        *replaced(&halves(0x0200_403B), stand_in),
+        halves(0x0000_0033)
+    );
     // MUL, MULW; OP_32 with funct3 1, 2, 3; funct7 0, 2 and 0x21; behind a compressed halfword; in two words' halves; half a word.
     for whole in [
         halves(0x0220_81B3).to_vec(),
@@ -329,7 +287,7 @@ fn stand_ins_by_hand() {
         run(&[&[0x0093], &mulh, &[0x0000]]),
         run(&[&addi, &mulh[..1]]),
     ] {
-        assert_eq!(*with_stand_ins(&whole), whole);
+        assert_eq!(*replaced(&whole, stand_in), whole);
     }
     assert_eq!(M.iter().filter(|row| row.1 == OP).count(), 8);
 }

@@ -2,9 +2,9 @@
 //! counts. Module `against_original` does so with the original's counts, at every request that it compares; here are the request's cases,
 //! every span that there is, and the corpus.
 
+use crate::judged::judged;
 use crate::random::Random;
 use crate::requests::{self, Wanted};
-use crate::rest_of_m::judged;
 use crate::words::{self, halves};
 use emuko_original::{Answer, Emuko, Original, CODE_SIZE};
 use emuko_x64_blocks::{translate, Refusal, Request, GREATEST_BLOCK, MOST_SPAN, MOST_STEPS};
@@ -31,8 +31,13 @@ const JAL: [u16; 2] = [0x006F, 0x0000];
 const FENCE_I: [u16; 2] = [0x100F, 0x0000];
 const HALFWORD: [u16; 1] = [0x0001];
 
-/// Words that are not taken: a branch with funct3 2, OP with funct7 0x20 and funct3 4, and ECALL.
-const NOT_TAKEN: [[u16; 2]; 3] = [[0x2063, 0x0000], [0xC1B3, 0x4020], [0x0073, 0x0000]];
+/// Words that are not taken: a branch with funct3 2, OP with funct7 0x20 and funct3 4, ECALL, and JALR with funct3 1.
+const NOT_TAKEN: [[u16; 2]; 4] = [
+    [0x2063, 0x0000],
+    [0xC1B3, 0x4020],
+    [0x0073, 0x0000],
+    [0x9067, 0x0000],
+];
 
 /// The request's cases, and each sort of instruction as the only one and as the last.
 #[test]

@@ -1,4 +1,4 @@
-//! Guest instructions of every sort that document 01 and request Q-2 name.
+//! Guest instructions of every sort that document 01 and the requests name.
 
 use crate::random::Random;
 
@@ -15,6 +15,7 @@ enum Top {
 
 use Top::{Any, Seven, Six};
 
+const JALR: u32 = 0x67;
 const BRANCH: u32 = 0x63;
 const OP_IMM: u32 = 0x13;
 const OP_IMM_32: u32 = 0x1B;
@@ -184,16 +185,19 @@ pub fn ending(r: &mut Random) -> u32 {
 pub fn jump(r: &mut Random) -> u32 {
     match r.below(4) {
         0 => upper_word(r, 0x6F),
-        1 => {
-            let funct3 = if r.percent(70) { 0 } else { r.below(8) as u32 };
-            word(r, 0x67, funct3, Any)
-        }
+        1 => word(r, JALR, 0, Any),
         _ => {
             let funct3 = r.one_of(&[0, 1, 4, 5, 6, 7]);
             let seven = r.below(128) as u32;
             word(r, BRANCH, funct3, Seven(seven))
         }
     }
+}
+
+/// JALR's opcode with a reserved funct3, which is not taken since request Q-6.
+pub fn reserved_jalr(r: &mut Random) -> u32 {
+    let funct3 = 1 + r.below(7) as u32;
+    word(r, JALR, funct3, Any)
 }
 
 /// A load or store that ends the block by a helper.
@@ -282,7 +286,7 @@ fn not_taken_immediate(r: &mut Random) -> u32 {
 
 /// A word that is not taken, of any sort.
 pub fn not_taken(r: &mut Random) -> u32 {
-    match r.below(13) {
+    match r.below(14) {
         0..=4 => not_taken_op(r),
         5..=8 => not_taken_immediate(r),
         9 => {
@@ -298,6 +302,7 @@ pub fn not_taken(r: &mut Random) -> u32 {
                 r.one_of(&[(LOAD, 7), (STORE, 4), (STORE, 5), (STORE, 6), (STORE, 7)]);
             word(r, opcode, funct3, Any)
         }
+        12 => reserved_jalr(r),
         _ => {
             let opcode = r.one_of(&NEVER);
             r.u32() << 7 | opcode

@@ -1,0 +1,37 @@
+//! The original Rust as the judge of a reply, where it and this crate are to do the same. It is asked for a run cut behind its first FENCE.I
+//! (module `fence_i`), with stand-ins for the words that one of the two takes and the other does not (modules `rest_of_m` and
+//! `reserved_jalr`).
+
+use crate::fence_i::cut;
+use crate::reserved_jalr::{self, ECALL};
+use crate::rest_of_m::{self, put_bodies};
+use crate::runs::{replaced, words};
+use emuko_original::{Answer, Emuko, Original};
+use std::borrow::Cow;
+
+/// The run with all stand-ins.
+pub fn with_stand_ins(halfwords: &[u16]) -> Cow<'_, [u16]> {
+    replaced(halfwords, |word| {
+        rest_of_m::stand_in(word).or(reserved_jalr::stand_in(word))
+    })
+}
+
+/// What has to come out here, number 5 apart: what the original answers, with the bodies of the rest of M, and with the word itself in
+/// number 4.
+pub fn judged(
+    original: &mut Original,
+    start: u64,
+    limit: u32,
+    halfwords: &[u16],
+    helpers: [u64; 2],
+    bytes: &mut Vec<u8>,
+) -> Answer {
+    let run = with_stand_ins(cut(halfwords));
+    let answer = original.translate(start, limit, &run, helpers, bytes);
+    match answer {
+        Answer::Block(count) => put_bodies(original, halfwords, count, bytes),
+        Answer::NotTaken(ECALL) => return Answer::NotTaken(words(halfwords).next().unwrap()),
+        _ => {}
+    }
+    answer
+}
