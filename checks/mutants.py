@@ -33,7 +33,7 @@ PARTS = ["cases", "every_", "placing", "index", "drops", "buckets", "sorts", "en
 
 # Changes that no caller can see, read one by one: function, place of the byte, bit; the instruction as objdump has it without addresses,
 # and why. Where the compiler writes other code, an entry fits no more, and what is then not noticed has to be read anew. These were read
-# in the code of request Q-5, 300 changes of seed 1.
+# in the code of request Q-6, 300 changes of seed 1.
 OVERLAP = "only code and store that overlap come here, and these can't be lent"
 NULL_IS_EMPTY = "0 is shifted: a pointer of NULL has length 0, with which nothing comes here"
 HARMLESS = {
@@ -41,11 +41,11 @@ HARMLESS = {
     ("emuko_translate", 0x0FA, 0): ("shl $0xc,%r15d", NULL_IS_EMPTY + "; EDI, shifted instead, is written again before it is read"),
     ("emuko_translate", 0x280, 0): ("mov %r13b,0x3(%rbx,%rbp,1)", "a store of four bytes, of which the next two stores rewrite the last three"),
     ("emuko_translate", 0xB48, 4): ("cmp $0x1,%ecx", "SUB, which sets the same flags; ECX is written again before it is read"),
-    ("emuko_translate", 0xB7E, 7): ("and $0xf000,%ecx", "only CH of ECX is stored, and this bit is CL's"),
-    ("emuko_translate", 0xC77, 3): ("mov %edx,%r8d", "REX.W; the upper half of RDX is 0, and a SHR of R8D follows"),
-    ("emuko_translate", 0xCD2, 3): ("movabs $0x100050400000302,%rdx", "times 8 it is a shift count of 64 bits: 0x68 shifts as 0x28"),
-    ("emuko_translate", 0xD92, 0): ("and $0x7fe,%r12d", "R12D is a halfword shifted right by 4: bits 12 and up are 0"),
-    ("emuko_translate", 0xFE3, 7): ("shr $0x20,%rcx", "bit 7 of a shift count of 64 bits, of which six bits are used"),
+    ("emuko_translate", 0xBCC, 2): ("mov $0xf3,%edi", "a BT reads one of its bits 0 to 7, by the word's funct3; then EDI is written again"),
+    ("emuko_translate", 0xC32, 3): ("movabs $0x100050400000302,%rdx", "times 8 it is a shift count of 64 bits: 0x60 shifts as 0x20"),
+    ("emuko_translate", 0xCD2, 3): ("add $0x2c,%rbp", "ADD of EBP; RBP is a place in a block, below 2^32"),
+    ("emuko_translate", 0xCDE, 4): ("shl $0x5,%esi", "digit 6 in the place of 4, which this processor takes for SHL too"),
+    ("emuko_translate", 0xD10, 4): ("and $0x200000,%edx", "EDX is a halfword times 64: bits 22 and up are 0"),
     ("kind::word_kind", 0x038, 0): ("xor %edx,%edx", "XOR of DL; EAX and ESI are 0 here, and give kind 0 whatever RDX is"),
     ("emuko_word_kind", 0x008, 4): ("movzbl %al,%eax", "to EDX, which no caller reads; kind::word_kind has set all of EAX"),
     ("emuko_place", 0x040, 4): ("setb %bpl", "a bit of the ModRM byte's digit, which SETcc does not use"),

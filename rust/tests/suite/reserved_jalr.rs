@@ -1,6 +1,6 @@
 //! JALR's opcode with funct3 1 to 7 (request Q-6), which the manual reserves. The original Rust takes these words as JALR; here they are not
-//! taken, and leave no byte. It is asked for the run with ECALL in the place of each, which it does not take either, and
-//! which leaves no byte of it. So the original says everything of a reply but which word number 4 names.
+//! taken, and leave no byte. The original is asked for the run with ECALL in the place of each: that it does not take, and its block has no
+//! byte of it. So it says everything of a reply but which word number 4 names.
 
 use crate::random::Random;
 use crate::requests;
