@@ -1,5 +1,6 @@
 pub mod Cases
 pub mod CasesHold
+pub mod Expansions
 pub mod Vectors
 pub mod Values
 pub mod Reached
@@ -16,6 +17,7 @@ pub mod PremisesMet
 pub mod WitnessEntries
 pub mod Witness
 pub mod Runs
+pub mod Readings
 pub mod CodeChanges
 pub mod Dividing
 pub mod StaleBlock

@@ -9,6 +9,7 @@ pub mod Fields
 pub mod Matches
 pub mod Immediates
 pub mod Naming
+pub mod Expanding
 pub mod Needed
 pub mod Runs
 pub mod Leftover

@@ -1,4 +1,5 @@
--- What the translator and the manual's run share: two numbers of documents 01 and 02, and a name for each of the two helpers.
+-- What the translator and the manual's run share: two numbers of documents 01 and 02, an instruction's size, and a name for each of the two
+-- helpers.
 use Rattle.std.specs.Prelude.{ℕ}
 
 -- document 02, Q-2, for number 5 of document 01's "Replies": the greatest length of a block, the least output that is accepted; 67 and 64
@@ -10,6 +11,14 @@ greatest = 4099
 abbrev pub most_steps : ℕ
 most_steps = 64
 
--- document 01, "Block bytes": the helper for a compressed halfword, the helper for loads and stores
+-- an instruction of 32 bits, and one of 16 ("Base Instruction-Length Encoding"); how many bytes it has
+pub data Length : Type 0 where
+  long short : Length
+
+abbrev pub size : Length → ℕ
+size long = 4
+size short = 2
+
+-- document 01, "Block bytes": the helper for compressed halfwords that are not in line, the helper for loads and stores
 pub data Helper : Type 0 where
   for_halfword for_access : Helper

@@ -1,5 +1,5 @@
 -- Statements that are proved beside the agreement, a theorem of the same name in small letters for each.
-use Rattle.std.specs.Prelude.{◌≡◌, false, List, [], ◌∷◌, ◌++◌, ◌≢◌, ℕ, zero, suc, min, ◌+◌, ◌*◌, ◌%◌, ◌^◌, ◌≤◌, ◌<◌, length, take, drop, ltb, eqb, ℤ, nat_abs, ◌+ℤ◌, ◌*ℤ◌}
+use Rattle.std.specs.Prelude.{◌≡◌, false, true, List, [], ◌∷◌, ◌++◌, ◌≢◌, ℕ, zero, suc, min, ◌+◌, ◌*◌, ◌%◌, ◌^◌, ◌≤◌, ◌<◌, length, take, drop, ltb, eqb, ℤ, nat_abs, ◌+ℤ◌, ◌*ℤ◌}
 use Rattle.std.proofs.Math.Option.{some}
 use Rattle.std.proofs.Math.IntN.{ℤ.pos}
 use Rattle.std.specs.Int.Signed.{lt_z, non_neg}
@@ -8,13 +8,14 @@ use Rattle.agreement.specs.Riscv.Code.{Code, run_at}
 use Rattle.agreement.specs.Riscv.Immediates as Manual
 use Rattle.agreement.specs.Riscv.Instruction.{Instruction, signed, shift_right_arithmetic}
 use Rattle.agreement.specs.Riscv.Instruction.{bits_of, upper_half, quotient_u, remainder_u, overflows, quotient, remainder}
-use Rattle.agreement.specs.Riscv.Run.{taken}
+use Rattle.agreement.specs.Riscv.Run.{in_line, is_in_line, taken}
 use Rattle.agreement.specs.X86.Form.{Instr, Ok, Shift.sar, Cc.B, Cc.E, Cc.L}
 use Rattle.agreement.specs.X86.Encode.{encode}
 use Rattle.agreement.specs.X86.Decode.{decode, Bytes}
 use Rattle.agreement.specs.X86.State.{Flags, State, Permissions}
 use Rattle.agreement.specs.X86.Step.{steps, Goes}
 use Rattle.agreement.specs.X86.Flags.{sext, sub_flags, holds, shifted}
+use Rattle.agreement.specs.Translation.Decode16.{expand}
 use Rattle.agreement.specs.Translation.Decode32 as Decode32
 use Rattle.agreement.specs.Translation.Kind.{kind, kind_number}
 use Rattle.agreement.specs.Translation.Needed.{needed}
@@ -35,25 +36,39 @@ Encodes = (bs : List ℕ) (i : Instr) (rest : List ℕ)
 unfoldable pub TakenAlike : Type 0
 TakenAlike = (w : ℕ) → kind w ≡ taken w
 
--- What the number of a word's kind says: how the walk goes on from the word.
+-- What the number of a word's kind says: how the walk goes on from the word, which has z bytes.
 
-pub record GoesOn (k : Instruction) (pc w : ℕ) : Type 0 where
+pub record GoesOn (k : Instruction) (z pc w : ℕ) : Type 0 where
   pub code : List Instr
-  pub on : (p : Walked) → emit k pc w p ≡ before code p
+  pub on : (p : Walked) → emit k z pc w p ≡ before z code p
 
 -- an ending word has set RAX, or leaves it to the end of the block, which goes on at the word behind
-pub data Ends (k : Instruction) (pc w : ℕ) : Type 0 where
-  sets : (code : List Instr) → ((p : Walked) → emit k pc w p ≡ jumps code) → Ends k pc w
-  leaves : (code : List Instr) → ((p : Walked) → emit k pc w p ≡ stops_behind code (Decode32.wrapping_add pc 4)) → Ends k pc w
+pub data Ends (k : Instruction) (z pc w : ℕ) : Type 0 where
+  sets : (code : List Instr) → ((p : Walked) → emit k z pc w p ≡ jumps z code) → Ends k z pc w
+  leaves : (code : List Instr) → ((p : Walked) → emit k z pc w p ≡ stops_behind z code (Decode32.wrapping_add pc z)) → Ends k z pc w
 
-unfoldable pub WalksBy : ℕ → Instruction → ℕ → ℕ → Type 0
-WalksBy zero k pc w = (p : Walked) → emit k pc w p ≡ not_taken_at pc w
-WalksBy (suc zero) k pc w = GoesOn k pc w
-WalksBy (suc (suc zero)) k pc w = Ends k pc w
-WalksBy (suc (suc (suc n))) k pc w = (p : Walked) → emit k pc w p ≡ helps for_access w pc
+unfoldable pub WalksBy : ℕ → Instruction → ℕ → ℕ → ℕ → Type 0
+WalksBy zero k z pc w = (p : Walked) → emit k z pc w p ≡ not_taken_at pc w
+WalksBy (suc zero) k z pc w = GoesOn k z pc w
+WalksBy (suc (suc zero)) k z pc w = Ends k z pc w
+WalksBy (suc (suc (suc n))) k z pc w = (p : Walked) → emit k z pc w p ≡ helps for_access w pc
 
 unfoldable pub KindsWalk : Type 0
-KindsWalk = (k : Instruction) (pc w : ℕ) → WalksBy (kind_number k) k pc w
+KindsWalk = (k : Instruction) (z pc w : ℕ) → WalksBy (kind_number k) k z pc w
+
+-- Compressed halfwords: the translator expands each of those that a turn reads in line as the manual does, and no other. What is read in
+-- line is a word of 32 bits that document 01's list names.
+
+unfoldable pub ExpandsAlike : Type 0
+ExpandsAlike = (h : ℕ) → expand h ≡ in_line h
+
+pub record Listed (w : ℕ) : Type 0 where
+  pub below : w < 2 ^ 32
+  pub low : w % 4 ≡ 3
+  pub is_straight_or_ends : is_in_line (taken w) ≡ true
+
+unfoldable pub ExpandsToListed : Type 0
+ExpandsToListed = (h w : ℕ) → in_line h ≡ some w → Listed w
 
 -- A run that was fetched no further than `needed` is translated as the whole run is.
 
@@ -191,12 +206,15 @@ pub record Reaches (n : ℕ) : Type 0 where
 unfoldable pub BothReached : Type 0
 BothReached = Reaches 67 × Reaches 4099
 
--- A block spans from 2 to 256 bytes of the guest's code, an even number of them, and none that its run did not have.
+-- A block spans from 2 to 256 bytes of the guest's code, an even number of them, 2 to 4 for each instruction that it counts, and none that its
+-- run did not have.
 
 pub record SpansOf (hs : List ℕ) (b : Block) : Type 0 where
   pub low : 2 ≤ b.span
   pub high : b.span ≤ 256
   pub even : b.span % 2 ≡ 0
+  pub least : 2 * b.count ≤ b.span
+  pub most : b.span ≤ 4 * b.count
   pub there : b.span ≤ 2 * length hs
 
 unfoldable pub Spans : Type 0

@@ -1,3 +1,4 @@
+pub mod Decode16
 pub mod Decode32
 pub mod Kind
 pub mod Needed

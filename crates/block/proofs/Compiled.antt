@@ -2,7 +2,7 @@
 use Rattle.std.proofs.Common.{◌≡◌, ℕ, List, ◌++◌, ◌∙◌, zero-add}
 use Rattle.agreement.specs.X86.Encode.{bytes}
 use Rattle.agreement.specs.Translation.Emit.{opening}
-use Rattle.agreement.specs.Translation.Walk.{ending, instrs, spanned}
+use Rattle.agreement.specs.Translation.Walk.{ending, instrs}
 use Rattle.agreement.specs.Translation.Walk as Translation
 use Rattle.agreement.specs.Translation.Replies.{block_of}
 use Rattle.emitter.specs.Written.{Writes}
@@ -12,15 +12,14 @@ use Rattle.walk.specs.Walks.{Walks, Closes, end_as}
 use Rattle.walk.specs.declared.walk.Walked.{Walked}
 use Rattle.block.specs.Answers.{Compiles}
 
-pub compiled : {e f g h : X64Emitter} {w : Walked} {count span : ℕ} {before : List ℕ} (helper16 helper_mem : ℕ) (p : Translation.Walked)
+pub compiled : {e f g h : X64Emitter} {w : Walked} {count : ℕ} {before : List ℕ} (helper16 helper_mem : ℕ) (p : Translation.Walked)
     → e.out.now ≡ before → e.at ≡ 0
-    → Writes e (bytes opening) f → Walks f 0 p g w → Closes g helper16 helper_mem (end_as w.end) w.emitted h count
-    → span ≡ spanned (end_as w.end) w.emitted
-    → Compiles (block_of helper16 helper_mem p) before h.out.now (record { length = h.at; count = count; span = span })
+    → Writes e (bytes opening) f → Walks f 0 0 p g w → Closes g helper16 helper_mem (end_as w.end) w.emitted h count
+    → Compiles (block_of helper16 helper_mem p) before h.out.now (record { length = h.at; count = count; span = w.span })
 unfolding instrs
-compiled {e = e} {g = g} {h = h} {w = w} {count = count} {before = before} helper16 helper_mem p output place o walks closes spans = record {
+compiled {e = e} {g = g} {h = h} {w = w} {count = count} {before = before} helper16 helper_mem p output place o walks closes = record {
   counts = c.counts;
-  spans = rw (walks.ends, walks.counts ∙ zero-add p.added) at spans;
+  spans = walks.spans ∙ zero-add p.span;
   wrote = rw (← output, ← place) whole.wrote;
 }
   where

@@ -68,7 +68,7 @@ fn compile_native_block(
     Block {
         length: em.at,
         count,
-        span: walked.end.span(walked.emitted),
+        span: walked.span,
     }
 }
 

@@ -2,12 +2,13 @@
 #![tactic(auto)]
 
 ghost use Rattle.std.specs.Prelude.{◌≡◌};
+ghost use Rattle.agreement.specs.Riscv.Run.{in_line};
 ghost use Rattle.agreement.specs.Translation.Kind.{kind, kind_number};
 ghost use Rattle.agreement.specs.Translation.Replies.{rules};
 ghost use Rattle.block.specs.Answers as Answers;
 ghost use Rattle.store.specs.Places as Places;
 ghost use Rattle.index.specs.Answers as Indexed;
-ghost use Rattle.capi.specs.Replies.{padded, Replies, RepliesToPlacing};
+ghost use Rattle.capi.specs.Replies.{or_0, padded, Replies, RepliesToPlacing};
 ghost use Rattle.capi.specs.Indexes.{RepliesToFind, RepliesToInsert};
 
 use block::{Block, Helpers, Refusal};
@@ -54,12 +55,12 @@ impl From<Result<Block, Refusal>> for Reply {
 
 // Which rules the blocks follow, a number that grows with every change to them (document 02, Q-6). A caller that has an index of blocks made
 // under others, or does not know under which, empties it, once, before its next use: what it finds there may be another block than the one
-// that its run is translated to now, as that of a JALR with a reserved funct3 is.
+// that its run is translated to now, as that of a run with a compressed instruction is.
 #[unsafe(no_mangle)]
 pub extern "C" fn emuko_rules() -> u32
     ensures { result ≡ rules }
 {
-    6
+    7
 }
 
 // block: length, count, span; 1; 2, start; 3, index; 4, word; 5
@@ -101,8 +102,17 @@ pub extern "C" fn emuko_place(code: &[u8], store: &mut [u8], used: usize) -> Rep
     store::place(code, store, used).into()
 }
 
+// The word that a compressed halfword is translated as; 0, which is no word, where there is none and a helper executes the halfword.
+#[unsafe(no_mangle)]
+pub extern "C" fn emuko_expand(halfword: u16) -> u32
+    ensures { result ≡ or_0 (in_line halfword) }
+{
+    decode::expand(halfword).unwrap_or(0)
+}
+
 // What becomes of a word: 0 it is not taken, 1 the block goes on behind it, 2 it ends the block, 3 the memory helper does. A caller
-// that fetches a run halfword by halfword needs none behind a word that is not 1 (`needs_no_more`, crate agreement).
+// that fetches a run halfword by halfword needs none behind a word that is not 1, nor behind a halfword whose word is not 1
+// (`needs_no_more`, crate agreement).
 #[unsafe(no_mangle)]
 pub extern "C" fn emuko_word_kind(instr: u32) -> u32
     ensures { result ≡ kind_number (kind instr) }

@@ -3,6 +3,7 @@
 // where the Rust has a shift and a mask, and fields are joined by sums where it has `|`: the same bits.
 #![tactic(auto)]
 
+pub mod compressed;
 pub mod isa;
 mod xreg;
 
@@ -10,6 +11,7 @@ ghost use Rattle.std.specs.Prelude.{◌≡◌, ◌^◌, ◌<◌, ◌≤◌};
 ghost use Rattle.agreement.specs.Riscv.Immediates.{sign_extend, imm_i, imm_s, imm_b, imm_u, imm_j};
 ghost use Rattle.decode.specs.Decoded.{decoded};
 
+pub use compressed::expand;
 pub use xreg::XReg;
 
 #[derive(Clone, Copy)]

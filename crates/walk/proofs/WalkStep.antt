@@ -1,31 +1,42 @@
 -- A step of the walk (crate agreement, Translation/Walk) by what stands at the front of the run.
-use Rattle.std.proofs.Common.{bit_and, Bool, List, [], ap, cond, drop, drop-drop, eqb, false, refl, sub-one, suc, sym, true, zero, ℕ, ◌+◌, ◌*◌, arith}
+use Rattle.std.proofs.Common.{bit_and, Bool, List, [], ap, cond, drop, drop-drop, eqb, false, refl, sub-one, subst, suc, sym, true, zero, ℕ, ◌+◌, ◌*◌, ◌≤◌, arith}
 use Rattle.std.proofs.Common.{◌-◌, ◌∙◌, ◌∷◌, ◌≡◌, ◌≢◌, Option, Result, Ok, Err}
+use Rattle.std.proofs.Math.Option.{none, some}
+use Rattle.std.proofs.Math.Option as Definitions
 use Rattle.agreement.specs.Common.{Helper.for_halfword}
 use Rattle.agreement.specs.Translation.Decode32.{word_of, wrapping_add}
 use Rattle.agreement.specs.Translation.Kind.{kind}
-use Rattle.agreement.specs.Translation.Walk.{Walked, walk, emit, stops_at, helps}
+use Rattle.agreement.specs.Riscv.Run.{in_line}
+use Rattle.agreement.specs.Translation.Decode16.{expand}
+use Rattle.agreement.specs.Translation.Walk.{Walked, walk, emit, emit_halfword, stops_at, helps}
 use Rattle.words.specs.Word.{word_as, end_at}
 use Rattle.words.specs.declared.X64EmitFlow.{X64EmitFlow}
-use Rattle.words.proofs.WalkWords.{by_flow, walks_on}
-use Rattle.walk.specs.Fetch.{missing, fetched}
+use Rattle.walk.specs.Fetch.{by_expansion, fetched, instr_of, missing, to_translate}
+use Rattle.walk.specs.declared.fetch.Instr.{Instr}
 use Rattle.walk.specs.declared.fetch.Fetched.{Fetched}
 use Rattle.walk.specs.declared.fetch.Fetched.TheVariants.{Half, Word}
 use Rattle.walk.specs.declared.fetch.Missing.{Missing}
+use Rattle.agreement.proofs.Laws.Expanding.{expand_is}
+use Rattle.words.proofs.WalkWords.{by_flow, walks_on}
 
--- p: the walk over what follows the word
-abbrev by_fetched : Result Fetched Missing → ℕ → Walked → Walked
-by_fetched (Err m) pc p = stops_at pc
-by_fetched (Ok (Half h)) pc p = helps for_halfword h pc
-by_fetched (Ok (Word w)) pc p = emit (kind w) pc w p
+-- rest: the walk over what follows so many halfwords
+abbrev by_fetched : Result Fetched Missing → ℕ → (ℕ → Walked) → Walked
+by_fetched (Err m) pc rest = stops_at pc
+by_fetched (Ok (Half h)) pc rest = emit_halfword (expand h) pc h (rest 1)
+by_fetched (Ok (Word w)) pc rest = emit (kind w) (2 * 2) pc w (rest 2)
 
-step : (n pc : ℕ) (hs : List ℕ) → walk (suc n) pc hs ≡ by_fetched (fetched hs) pc (walk n (wrapping_add pc 4) (drop 2 hs))
+-- the walk over what follows m halfwords of the run
+abbrev pub follows : ℕ → ℕ → List ℕ → ℕ → Walked
+follows n pc hs m = walk n (wrapping_add pc (2 * m)) (drop m hs)
+
+step : (n pc : ℕ) (hs : List ℕ) → walk (suc n) pc hs ≡ by_fetched (fetched hs) pc (follows n pc hs)
 unfolding walk
 step n pc [] = refl
 step n pc (h ∷ []) = go (eqb (bit_and h 0x3) 0x3)
   where
-    go : (t : Bool) → elim t [ true ↦ stops_at pc | false ↦ helps for_halfword h pc ]
-        ≡ by_fetched (cond t (missing 1) (Ok (Half h))) pc (walk n (wrapping_add pc 4) [])
+    go : (t : Bool)
+        → elim t [ true ↦ stops_at pc | false ↦ emit_halfword (expand h) pc h (walk n (wrapping_add pc 2) []) ]
+        ≡ by_fetched (cond t (missing 1) (Ok (Half h))) pc (follows n pc (h ∷ []))
     go true = refl
     go false = refl
 step n pc (h ∷ u ∷ hs) = go (eqb (bit_and h 0x3) 0x3)
@@ -33,22 +44,42 @@ step n pc (h ∷ u ∷ hs) = go (eqb (bit_and h 0x3) 0x3)
     w : ℕ
     w = word_of h u
 
-    p : Walked
-    p = walk n (wrapping_add pc 4) hs
-
-    go : (t : Bool) → elim t [ true ↦ emit (kind w) pc w p | false ↦ helps for_halfword h pc ]
-        ≡ by_fetched (cond t (Ok (Word w)) (Ok (Half h))) pc p
+    go : (t : Bool)
+        → elim t [
+          | true ↦ emit (kind w) 4 pc w (walk n (wrapping_add pc 4) hs)
+          | false ↦ emit_halfword (expand h) pc h (walk n (wrapping_add pc 2) (u ∷ hs))
+        ]
+        ≡ by_fetched (cond t (Ok (Word w)) (Ok (Half h))) pc (follows n pc (h ∷ u ∷ hs))
     go true = refl
     go false = refl
 
 -- n steps are left, and f is what stands at the front
 some_left : (n pc : ℕ) (hs : List ℕ) {f : Result Fetched Missing} → n ≢ 0 → f ≡ fetched hs
-    → walk n pc hs ≡ by_fetched f pc (walk (n - 1) (wrapping_add pc 4) (drop 2 hs))
+    → walk n pc hs ≡ by_fetched f pc (follows (n - 1) pc hs)
 some_left zero pc hs h e = absurd (h refl)
 some_left (suc n) pc hs {f} h e =
     step n pc hs
-    ∙ ap (λ (g : Result Fetched Missing). by_fetched g pc (walk n (wrapping_add pc 4) (drop 2 hs))) (sym e)
-    ∙ ap (λ (m : ℕ). by_fetched f pc (walk m (wrapping_add pc 4) (drop 2 hs))) (sym (sub-one (suc n)))
+    ∙ ap (λ (g : Result Fetched Missing). by_fetched g pc (follows n pc hs)) (sym e)
+    ∙ ap (λ (m : ℕ). by_fetched f pc (follows m pc hs)) (sym (sub-one (suc n)))
+
+-- the same by what is translated
+abbrev by_instr : Result Instr ℕ → ℕ → (ℕ → Walked) → Walked
+by_instr (Err h) pc rest = helps for_halfword h pc
+by_instr (Ok i) pc rest = emit (kind i.word) (2 * i.halfwords) pc i.word (rest i.halfwords)
+
+translated : (f : Fetched) (pc : ℕ) (rest : ℕ → Walked) → by_fetched (Ok f) pc rest ≡ by_instr (to_translate f) pc rest
+translated (Word w) pc rest = refl
+translated (Half h) pc rest = ap (λ (o : Definitions.Option ℕ). emit_halfword o pc h (rest 1)) (expand_is h) ∙ go (in_line h)
+  where
+    go : (o : Definitions.Option ℕ) → emit_halfword o pc h (rest 1) ≡ by_instr (by_expansion o h) pc rest
+    go none = refl
+    go (some w) = refl
+
+some_translated : (n pc : ℕ) (hs : List ℕ) {f : Fetched} {i : Result Instr ℕ} → n ≢ 0 → Ok f ≡ fetched hs → i ≡ to_translate f
+    → walk n pc hs ≡ by_instr i pc (follows (n - 1) pc hs)
+some_translated n pc hs {f} h e t =
+    some_left n pc hs h e ∙ translated f pc (follows (n - 1) pc hs)
+    ∙ ap (λ (j : Result Instr ℕ). by_instr j pc (follows (n - 1) pc hs)) (sym t)
 
 pub at_none : (n pc : ℕ) (hs : List ℕ) → n ≡ 0 → walk n pc hs ≡ stops_at pc
 unfolding walk
@@ -57,17 +88,35 @@ at_none n pc hs e = rw e refl
 pub at_missing : (n pc : ℕ) (hs : List ℕ) {m : Missing} → n ≢ 0 → Err m ≡ fetched hs → walk n pc hs ≡ stops_at pc
 at_missing n pc hs h e = some_left n pc hs h e
 
-pub at_half : (n pc : ℕ) (hs : List ℕ) {i : ℕ} → n ≢ 0 → Ok (Half i) ≡ fetched hs → walk n pc hs ≡ helps for_halfword i pc
-at_half n pc hs h e = some_left n pc hs h e
+pub at_half : (n pc : ℕ) (hs : List ℕ) {f : Fetched} {h : ℕ} → n ≢ 0 → Ok f ≡ fetched hs → Err h ≡ to_translate f
+    → walk n pc hs ≡ helps for_halfword h pc
+at_half n pc hs l e t = some_translated n pc hs l e t
 
-pub at_word : (n pc : ℕ) (hs : List ℕ) {w : ℕ} {f : Option X64EmitFlow} → n ≢ 0 → Ok (Word w) ≡ fetched hs → (word_as (kind w) pc w).flow ≡ f
+pub at_word : (n pc : ℕ) (hs : List ℕ) {f : Fetched} {w m : ℕ} {t : Option X64EmitFlow} → n ≢ 0
+    → Ok f ≡ fetched hs → Ok (instr_of w m) ≡ to_translate f → (word_as (kind w) (2 * m) pc w).flow ≡ t
     → walk n pc hs
-    ≡ by_flow f (word_as (kind w) pc w).code (wrapping_add pc 4) (end_at (kind w) pc w) (walk (n - 1) (wrapping_add pc 4) (drop 2 hs))
-at_word n pc hs {w} h e t =
-    let p : Walked = walk (n - 1) (wrapping_add pc 4) (drop 2 hs) in
-    some_left n pc hs h e ∙ walks_on (kind w) pc w p
-    ∙ ap (λ (g : Option X64EmitFlow). by_flow g (word_as (kind w) pc w).code (wrapping_add pc 4) (end_at (kind w) pc w) p) t
+    ≡ by_flow t (2 * m) (word_as (kind w) (2 * m) pc w).code (wrapping_add pc (2 * m)) (end_at (kind w) pc w) (follows (n - 1) pc hs m)
+at_word n pc hs {w = w} {m = m} l e i t =
+    let p : Walked = follows (n - 1) pc hs m in
+    some_translated n pc hs l e i ∙ walks_on (kind w) (2 * m) pc w p
+    ∙ ap (λ (g : Option X64EmitFlow). by_flow g (2 * m) (word_as (kind w) (2 * m) pc w).code (wrapping_add pc (2 * m)) (end_at (kind w) pc w) p) t
 
--- the run behind a word, from the word and from the start of the run
-pub behind : (m pc n : ℕ) (hs : List ℕ) → walk m pc (drop 2 (drop (2 * n) hs)) ≡ walk m pc (drop (2 * (n + 1)) hs)
-behind m pc n hs = let two : 2 * n + 2 ≡ 2 * (n + 1) = omega arith in rw (drop-drop 2 (2 * n) hs, two) refl
+-- the run behind an instruction, from the instruction and from the start of the run
+pub behind : (n pc m k : ℕ) (hs : List ℕ) → follows n pc (drop k hs) m ≡ walk n (wrapping_add pc (2 * m)) (drop (k + m) hs)
+behind n pc m k hs = rw (drop-drop m k hs) refl
+
+-- an instruction has one halfword or two
+abbrev halfwords_of : Result Instr ℕ → ℕ
+halfwords_of (Ok i) = i.halfwords
+halfwords_of (Err h) = 0
+
+at_most : (f : Fetched) → halfwords_of (to_translate f) ≤ 2
+at_most (Word w) = omega arith
+at_most (Half h) = go (in_line h)
+  where
+    go : (o : Definitions.Option ℕ) → halfwords_of (by_expansion o h) ≤ 2
+    go none = omega arith
+    go (some w) = omega arith
+
+pub at_most_two : {w m : ℕ} (f : Fetched) → Ok (instr_of w m) ≡ to_translate f → m ≤ 2
+at_most_two f e = subst (λ (n : ℕ). n ≤ 2) (sym (ap halfwords_of e)) (at_most f)

@@ -1,5 +1,5 @@
 -- A walk that was written, and a block's end: the code's cases as those of crate agreement (Translation/Walk).
-use Rattle.std.specs.Prelude.{◌≡◌, ℕ, ◌+◌}
+use Rattle.std.specs.Prelude.{◌≡◌, ℕ, ◌+◌, ◌*◌}
 use Rattle.agreement.specs.Common.{Helper.for_halfword, Helper.for_access}
 use Rattle.agreement.specs.Common as Common
 use Rattle.agreement.specs.X86.Encode.{bytes}
@@ -7,6 +7,7 @@ use Rattle.agreement.specs.Translation.Walk.{End.goes_on, End.jumped, End.calls,
 use Rattle.agreement.specs.Translation.Walk as Translation
 use Rattle.emitter.specs.declared.X64Emitter.{X64Emitter}
 use Rattle.emitter.specs.Written.{Writes}
+use Rattle.words.specs.Word.{end_size}
 use Rattle.walk.specs.declared.close.Helper.{Helper}
 use Rattle.walk.specs.declared.close.Helper.TheVariants.{Halfword, Access}
 use Rattle.walk.specs.declared.close.End.{End}
@@ -28,13 +29,18 @@ most (goes_on pc) = 35
 most jumped = 25
 most (calls h i pc) = 63
 
--- the walk p, behind n earlier words, was written
-pub record Walks (old : X64Emitter) (n : ℕ) (p : Translation.Walked) (new : X64Emitter) (r : Walked) : Type 0 where
+-- behind n instructions of k halfwords
+abbrev pub walked_of : ℕ → ℕ → End → Walked
+walked_of n k e = record { emitted = n; span = 2 * k + end_size (end_as e); end = e }
+
+-- the walk p, behind n earlier instructions of k halfwords, was written
+pub record Walks (old : X64Emitter) (n k : ℕ) (p : Translation.Walked) (new : X64Emitter) (r : Walked) : Type 0 where
   pub ends : end_as r.end ≡ p.end
   pub counts : r.emitted ≡ n + p.added
+  pub spans : r.span ≡ 2 * k + p.span
   pub writes : Writes old (bytes p.code) new
 
--- the end e, behind n words, was written, and the block has this count
+-- the end e, behind n instructions, was written, and the block has this count
 pub record Closes (old : X64Emitter) (helper16 helper_mem : ℕ) (e : Translation.End) (n : ℕ) (new : X64Emitter) (count : ℕ)
     : Type 0 where
   pub counts : count ≡ counted e n

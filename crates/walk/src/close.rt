@@ -2,13 +2,14 @@
 ghost use Rattle.std.specs.Prelude.{◌≡◌, ◌≤◌};
 ghost use Rattle.agreement.specs.Common.{most_steps};
 ghost use Rattle.agreement.specs.X86.Encode.{bytes};
-ghost use Rattle.agreement.specs.Translation.Walk.{ending, goes_on, jumped, helper_at, size_of, spanned};
+ghost use Rattle.agreement.specs.Translation.Walk.{ending, goes_on, jumped, helper_at, size_of};
 ghost use Rattle.emitter.specs.Written.{Writes, HasRoom};
 ghost use Rattle.walk.specs.Walks.{end_as, helper_as, most, Closes};
+ghost use Rattle.words.specs.Word.{end_size};
 
 use emitter::X64Emitter;
 
-// Which helper a block's end calls: that of a compressed halfword, or that of a load or store.
+// Which helper a block's end calls: that of a compressed halfword that is not in line, or that of a load or store.
 #[derive(Clone, Copy)]
 pub enum Helper {
     Halfword,
@@ -54,16 +55,14 @@ impl Helper {
 }
 
 impl End {
-    // How many bytes of the guest's code the block spans, `emitted` words and the instruction that a helper executes.
-    #[tactic(auto, unfolding(agreement::specs::Translation::Walk::spanned))]
-    pub fn span(self, emitted: u32) -> u64
-        requires { emitted ≤ most_steps }
-        ensures { result ≡ spanned (end_as self) emitted }
+    // How many bytes the instruction has that a helper executes; none without a helper.
+    pub fn size(self) -> u64
+        ensures size { result ≡ end_size (end_as self) }
+        ensures at_most_4 { result ≤ 4 }
     {
-        let words = 4 * emitted as u64;
         match self {
-            End::GoesOn(_) | End::Jumped => words,
-            End::Calls { helper, .. } => words + helper.size(),
+            End::GoesOn(_) | End::Jumped => 0,
+            End::Calls { helper, .. } => helper.size(),
         }
     }
 }

@@ -3,8 +3,7 @@
 use Rattle.std.specs.Prelude.{◌≡◌, Bool, true, false, ℕ, ◌-◌, ◌*◌, ◌/◌, ◌%◌, ◌^◌, cond, List, [], ◌∷◌, ◌++◌, ◌==◌, Option, Some, None}
 use Rattle.agreement.specs.Common.{Helper.for_halfword, Helper.for_access}
 use Rattle.agreement.specs.Riscv.Instruction.{Op, OpImm, Branch, Instruction}
-use Rattle.agreement.specs.Riscv.Instruction.Instruction.{op, op_imm, branch, access, unmodelled, LUI, AUIPC, JAL, JALR, FENCE, FENCE_I}
-use Rattle.agreement.specs.Riscv.Instruction.Instruction.{other}
+use Rattle.agreement.specs.Riscv.Instruction.Instruction.{op, op_imm, branch, access, unmodelled, LUI, AUIPC, JAL, JALR, FENCE, FENCE_I, other}
 use Rattle.agreement.specs.X86.Form.{RAX, RCX, RDX, RBX, RBP, RSI, RDI, R8, R9, R10, R11, R12, R13, R14, R15, Cc, Instr}
 use Rattle.agreement.specs.X86.Form.Alu.{add, and}
 use Rattle.agreement.specs.X86.Form.Instr.{push, pop, mov, mov_imm64, store, alu_imm32, cmov}
@@ -12,7 +11,7 @@ use Rattle.agreement.specs.X86.Encode.{bytes}
 use Rattle.agreement.specs.Translation.Decode32.{opcode, rd, rs1, rs2, imm32, shamt, shamt_w, imm_u, imm_b, imm_j, wrapping_add}
 use Rattle.agreement.specs.Translation.Emit.{body_op, body_op_imm, code_op, code_op_imm, code_const, code_jal, code_jalr, code_branch, cc_for, compare}
 use Rattle.agreement.specs.Translation.Emit.{load_reg, store_reg, leftover}
-use Rattle.agreement.specs.Translation.Walk.{End, End.calls, ending}
+use Rattle.agreement.specs.Translation.Walk.{End, End.calls, ending, size_of}
 use Rattle.agreement.specs.Translation.Kind.{kind_number, kind_op, kind_op32, kind_op_imm, kind_op_imm32, kind_branch, kind_fence}
 use Rattle.agreement.specs.Riscv.Immediates as Manual
 use Rattle.decode.specs.declared.Decoded32.{Decoded32}
@@ -48,20 +47,20 @@ pub record Emits (old : X64Emitter) (w : Word) (new : X64Emitter) (r : Option X6
 
 -- 2. By the instruction that `kind` names
 
--- the word w at pc
-abbrev pub word_as : Instruction → ℕ → ℕ → Word
-word_as (op o) pc w = goes_on (code_op o (rd w) (rs1 w) (rs2 w))
-word_as (op_imm o) pc w = goes_on (code_op_imm o (rd w) (rs1 w) (imm32 w) (shamt w) (shamt_w w))
-word_as LUI pc w = goes_on (code_const (rd w) (imm_u w))
-word_as AUIPC pc w = goes_on (code_const (rd w) (wrapping_add pc (imm_u w)))
-word_as FENCE pc w = goes_on []
-word_as FENCE_I pc w = stops_behind []
-word_as (branch c) pc w = ends (code_branch c (rs1 w) (rs2 w) (wrapping_add pc 4) (wrapping_add pc (imm_b w)))
-word_as JAL pc w = ends (code_jal (rd w) (wrapping_add pc 4) (wrapping_add pc (imm_j w)))
-word_as JALR pc w = ends (code_jalr (rd w) (rs1 w) (imm32 w) (wrapping_add pc 4))
-word_as (access a) pc w = not_emitted []
-word_as (unmodelled u) pc w = not_emitted (leftover (opcode w) (rs1 w) (rs2 w))
-word_as other pc w = not_emitted (leftover (opcode w) (rs1 w) (rs2 w))
+-- the word w at pc, z: its size in bytes
+abbrev pub word_as : Instruction → ℕ → ℕ → ℕ → Word
+word_as (op o) z pc w = goes_on (code_op o (rd w) (rs1 w) (rs2 w))
+word_as (op_imm o) z pc w = goes_on (code_op_imm o (rd w) (rs1 w) (imm32 w) (shamt w) (shamt_w w))
+word_as LUI z pc w = goes_on (code_const (rd w) (imm_u w))
+word_as AUIPC z pc w = goes_on (code_const (rd w) (wrapping_add pc (imm_u w)))
+word_as FENCE z pc w = goes_on []
+word_as FENCE_I z pc w = stops_behind []
+word_as (branch c) z pc w = ends (code_branch c (rs1 w) (rs2 w) (wrapping_add pc z) (wrapping_add pc (imm_b w)))
+word_as JAL z pc w = ends (code_jal (rd w) (wrapping_add pc z) (wrapping_add pc (imm_j w)))
+word_as JALR z pc w = ends (code_jalr (rd w) (rs1 w) (imm32 w) (wrapping_add pc z))
+word_as (access a) z pc w = not_emitted []
+word_as (unmodelled u) z pc w = not_emitted (leftover (opcode w) (rs1 w) (rs2 w))
+word_as other z pc w = not_emitted (leftover (opcode w) (rs1 w) (rs2 w))
 
 -- how a block ends at a word that is not emitted, by the number of its kind: the Rust tries `emit_native_term_mem_helper_x64`
 abbrev pub end_by : ℕ → ℕ → ℕ → End
@@ -69,6 +68,12 @@ end_by n pc w = cond (n == 3) (calls for_access w pc) (End.goes_on pc)
 
 abbrev pub end_at : Instruction → ℕ → ℕ → End
 end_at k pc w = end_by (kind_number k) pc w
+
+-- how many bytes the instruction has that the end's helper executes
+abbrev pub end_size : End → ℕ
+end_size (End.goes_on pc) = 0
+end_size End.jumped = 0
+end_size (calls h i pc) = size_of h
 
 -- 3. Parts of a word's code
 
@@ -167,14 +172,14 @@ jalr_word d i link = cond (d.funct3 == 0) (ends (code_jalr d.rd d.rs1 i link)) (
 abbrev pub fence_word : Instruction → Word
 fence_word k = by_family (λ _. not_emitted []) (λ _. not_emitted []) (λ _. not_emitted []) (goes_on []) (stops_behind []) k
 
--- the word w at pc: the match on the opcode, in the order of the code
-abbrev pub word_by : ℕ → ℕ → Decoded32 → Word
-word_by pc w d =
+-- the word w at pc, z: its size in bytes: the match on the opcode, in the order of the code
+abbrev pub word_by : ℕ → ℕ → ℕ → Decoded32 → Word
+word_by z pc w d =
     cond (d.opcode == 0x37) (goes_on (code_const d.rd (Manual.imm_u w))) (
     cond (d.opcode == 0x17) (goes_on (code_const d.rd (wrapping_add pc (Manual.imm_u w)))) (
-    cond (d.opcode == 0x6F) (ends (code_jal d.rd (wrapping_add pc 4) (wrapping_add pc (Manual.imm_j w)))) (
-    cond (d.opcode == 0x67) (jalr_word d (Manual.imm_i w % 2 ^ 32) (wrapping_add pc 4)) (
-    cond (d.opcode == 0x63) (branch_word (kind_branch d.funct3) d (wrapping_add pc 4) (wrapping_add pc (Manual.imm_b w))) (
+    cond (d.opcode == 0x6F) (ends (code_jal d.rd (wrapping_add pc z) (wrapping_add pc (Manual.imm_j w)))) (
+    cond (d.opcode == 0x67) (jalr_word d (Manual.imm_i w % 2 ^ 32) (wrapping_add pc z)) (
+    cond (d.opcode == 0x63) (branch_word (kind_branch d.funct3) d (wrapping_add pc z) (wrapping_add pc (Manual.imm_b w))) (
     cond (d.opcode == 0x13) (op_imm_word (kind_op_imm d.funct3 (d.imm12 / 64)) d (Manual.imm_i w % 2 ^ 32)) (
     cond (d.opcode == 0x1B) (op_imm_word (kind_op_imm32 d.funct3 d.funct7) d (Manual.imm_i w % 2 ^ 32)) (
     cond (d.opcode == 0x33) (op_word (kind_op d.funct3 d.funct7) d) (

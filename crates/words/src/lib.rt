@@ -53,9 +53,15 @@ fn fence_word(em: &mut X64Emitter<'_>, funct3: u8) -> Option<X64EmitFlow>
 
 // The match on the opcode. The immediates, the link and the target are worked out once, here.
 #[inline(always)]
-fn emit_by_opcode(em: &mut X64Emitter<'_>, pc: u64, instr: u32, d: Decoded32) -> Option<X64EmitFlow>
+fn emit_by_opcode(
+    em: &mut X64Emitter<'_>,
+    pc: u64,
+    size: u64,
+    instr: u32,
+    d: Decoded32,
+) -> Option<X64EmitFlow>
     requires { HasRoom em.old 63 }
-    ensures { Emits em.old (word_by pc instr d) em.new result }
+    ensures { Emits em.old (word_by size pc instr d) em.new result }
 {
     match d.opcode {
         isa::OPCODE_LUI => {
@@ -68,17 +74,17 @@ fn emit_by_opcode(em: &mut X64Emitter<'_>, pc: u64, instr: u32, d: Decoded32) ->
             Some(X64EmitFlow::Continue)
         }
         isa::OPCODE_JAL => {
-            let link = pc.wrapping_add(4);
+            let link = pc.wrapping_add(size);
             let target = pc.wrapping_add(decode::imm_j(instr));
             jump::jal(em, d.rd, link, target);
             Some(X64EmitFlow::Terminate)
         }
         isa::OPCODE_JALR => {
-            let link = pc.wrapping_add(4);
+            let link = pc.wrapping_add(size);
             jump::jalr_word(em, d, imm32(instr), link)
         }
         isa::OPCODE_BRANCH => {
-            let next = pc.wrapping_add(4);
+            let next = pc.wrapping_add(size);
             let target = pc.wrapping_add(decode::imm_b(instr));
             jump::branch_word(em, d, next, target)
         }
@@ -94,10 +100,15 @@ fn emit_by_opcode(em: &mut X64Emitter<'_>, pc: u64, instr: u32, d: Decoded32) ->
 // A word of the run at pc: its host instructions, and how the block goes on behind it. None, as in the Rust: the word is not taken, or a load
 // or store; there is no code for it but the loads in front of its test, of which JALR has none.
 #[inline(always)]
-pub fn emit_native_instr_x64(em: &mut X64Emitter<'_>, pc: u64, instr: u32) -> Option<X64EmitFlow>
+pub fn emit_native_instr_x64(
+    em: &mut X64Emitter<'_>,
+    pc: u64,
+    size: u64,
+    instr: u32,
+) -> Option<X64EmitFlow>
     requires { HasRoom em.old 63 }
-    ensures { Emits em.old (word_as (kind instr) pc instr) em.new result }
+    ensures { Emits em.old (word_as (kind instr) size pc instr) em.new result }
 {
     let d = decode::decode32(instr);
-    emit_by_opcode(em, pc, instr, d)
+    emit_by_opcode(em, pc, size, instr, d)
 }

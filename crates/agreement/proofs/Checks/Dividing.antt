@@ -117,8 +117,10 @@ words_pass : met_in true [] dividing_words && (met_in false [] straight_words &&
 unfolding reads_a_turn undivided unless_dividing divides
 words_pass = refl
 
--- DIV as the last word that the limit admits, and behind the limit; behind a compressed halfword; its lower half alone; nothing
+-- DIV as the last word that the limit admits, and behind the limit; behind C.NOP; behind C.LW, at which the turn ends; its lower half
+-- alone; nothing
 limits_pass : not (undivided 2 (words (0x00500093 ∷ 0x0220C1B3 ∷ []))) && (undivided 1 (words (0x00500093 ∷ 0x0220C1B3 ∷ []))
-    && (undivided 64 (0x0001 ∷ words (0x0220C1B3 ∷ [])) && (undivided 64 (0xC1B3 ∷ []) && undivided 64 []))) ≡ true
+    && (not (undivided 64 (0x0001 ∷ words (0x0220C1B3 ∷ []))) && (undivided 64 (0x4108 ∷ words (0x0220C1B3 ∷ []))
+    && (undivided 64 (0xC1B3 ∷ []) && undivided 64 [])))) ≡ true
 unfolding reads_a_turn undivided unless_dividing divides
 limits_pass = refl

@@ -103,7 +103,7 @@ plain_turn = plain_at 0x80000010
 
 -- a compressed halfword, the return address in the last eight bytes of memory: the helper leaves x10 = 9 and an odd pc
 abbrev pub halfword_turn : Turn
-halfword_turn = turn_of 0xFFFFFFFFFFFFFFF8 (held 0x80000024 (0x4501 ∷ [])) (0x4501 ∷ []) (leaves 10 9 0x80000031 1)
+halfword_turn = turn_of 0xFFFFFFFFFFFFFFF8 (held 0x80000024 (0x4108 ∷ [])) (0x4108 ∷ []) (leaves 10 9 0x80000031 1)
 
 -- there the code is plain_turn's once more, and the turn is refused
 abbrev pub odd_turn : Turn

@@ -1,4 +1,4 @@
--- The model computes: the example's plain block, one that jumps over its division and one that divides, fetched, decoded and
+-- The model computes: the example's plain block, one of compressed halfwords, one that jumps over its division and one that divides, fetched, decoded and
 -- executed step by step from entry to return.
 use Rattle.std.proofs.Common.{false, true, List, [], ◌∷◌, ◌≡◌, refl, ◌-◌, ◌^◌, ℕ, length}
 use mathlib.Core.Option.{Option, none, some}
@@ -18,8 +18,11 @@ use Rattle.agreement.proofs.Checks.Cases.{words}
 use Rattle.agreement.proofs.Checks.CasesHold.{immediates, translations}
 use Rattle.agreement.proofs.Checks.Example.{leaves, plain_turn, range, zeros}
 
+abbrev code_of_run : List ℕ → List ℕ
+code_of_run hs = bytes (instrs 0x1111 0x2222 (walked 0x80000010 64 hs))
+
 abbrev code_of : List ℕ → List ℕ
-code_of ws = bytes (instrs 0x1111 0x2222 (walked 0x80000010 64 (words ws)))
+code_of ws = code_of_run (words ws)
 
 abbrev code : List ℕ
 code = code_of (0x00108113 ∷ 0x00209863 ∷ [])
@@ -41,6 +44,12 @@ executed : summary (steps plain_turn.undefined plain_turn.ok 32 (enter plain_tur
     ≡ (0x80000024, 2, 0x30020, 1, 56)
 unfolding the_model translations immediates words range leaves
 executed = refl
+
+-- C.LI x2, 5; C.ADDI x2, 3; C.BEQZ x8, 16, which stands at 0x80000014 and is taken: 35 steps, and x2 becomes 8
+compressed : summary (steps plain_turn.undefined plain_turn.ok 35 (enter plain_turn (code_of_run (0x4115 ∷ 0x010D ∷ 0xC801 ∷ [])) zeros))
+    ≡ (0x80000024, 3, 0x30020, 8, 64)
+unfolding the_model translations immediates words range leaves
+compressed = refl
 
 -- DIV x2, x1, x0 jumps over its division: 34 steps through 37 instructions, and x2 becomes -1
 by_zero : summary (steps plain_turn.undefined plain_turn.ok 34 (enter plain_turn (code_of (0x0200C133 ∷ [])) zeros))

@@ -1,10 +1,13 @@
 -- The manual's state along the example, turn by turn, by computing.
 use Rattle.std.proofs.Common.{cond, false, not, true, ◌∙◌, ◌≡◌, ap, refl, ◌%◌, ◌+◌, ◌^◌, arith, eqb}
 use Rattle.agreement.specs.Common.{Helper.for_access, Helper.for_halfword}
+use Rattle.agreement.specs.Riscv.Compressed.{expansion, expansion_by}
+use Rattle.agreement.specs.Riscv.Compressed as Compressed
+use Rattle.agreement.specs.Riscv.Immediates.{sign_extend}
 use Rattle.agreement.specs.Riscv.Instruction.{branches, find, find_in, named, three_is, top_is, value_op_imm}
 use Rattle.agreement.specs.Riscv.Code.{run_at}
-use Rattle.agreement.specs.Riscv.Run.{GuestState, Registers, does, first_refused, help, is_long, is_not_taken, reading, refused, taken}
-use Rattle.agreement.specs.Riscv.Run.{write_x}
+use Rattle.agreement.specs.Riscv.Run.{GuestState, Registers, does, first_refused, help, is_long, is_not_taken, reading, refused, taken, in_line}
+use Rattle.agreement.specs.Riscv.Run.{write_x, if_in_line}
 use Rattle.agreement.specs.Riscv.Run.Stop.{called, plain}
 use Rattle.agreement.specs.Riscv.Immediates as Manual
 use Rattle.agreement.specs.Statement.Agreement.{feed_of, is_refused, start}
@@ -20,7 +23,7 @@ m0 = start first_pc zeros
 
 -- which kind of turn each is, by computing
 unfoldable pub reads_a_turn : Unit {0}
-unfolding run_at refused first_refused is_not_taken is_long taken named find_in find three_is top_is reading does words feed_of leaves
+unfolding run_at refused first_refused is_not_taken is_long taken named find_in find three_is top_is sign_extend Compressed.find expansion_by expansion if_in_line in_line reading does words feed_of leaves
 reads_a_turn = tt
 
 pub first_refused_lem : is_refused refused_turn m0 ≡ true
@@ -92,11 +95,11 @@ pub fourth_taken : (m : GuestState) → m.pc ≡ 0x80000024 → is_refused halfw
 unfolding reads_a_turn
 fourth_taken m e = rw e
 
-pub fourth_reads : (m : GuestState) → m.pc ≡ 0x80000024 → read_as halfword_turn m ≡ help m.registers 0x80000024 for_halfword 0x4501
+pub fourth_reads : (m : GuestState) → m.pc ≡ 0x80000024 → read_as halfword_turn m ≡ help m.registers 0x80000024 for_halfword 0x4108
 unfolding reads_a_turn
 fourth_reads m e = rw e
 
-pub fourth_calls : (m : GuestState) → m.pc ≡ 0x80000024 → (read_as halfword_turn m).stop ≡ called for_halfword 0x4501
+pub fourth_calls : (m : GuestState) → m.pc ≡ 0x80000024 → (read_as halfword_turn m).stop ≡ called for_halfword 0x4108
 fourth_calls m e = rw (fourth_reads m e)
 
 pub fifth_refused : (a : State) → is_refused odd_turn (after_helper halfword_turn a) ≡ true

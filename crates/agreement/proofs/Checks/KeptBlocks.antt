@@ -29,7 +29,7 @@ use Rattle.agreement.proofs.Checks.StaleBlock.{recoded}
 -- 1. The guest: the code as it is now at 0x80000000 is ADDI x1, x0, 5; C.LI x10, 0; a word that is not taken
 
 abbrev now : Code
-now = held 0x80000000 (words (0x00500093 ∷ []) ++ 0x4501 ∷ words (0x4020C1B3 ∷ []))
+now = held 0x80000000 (words (0x00500093 ∷ []) ++ 0x4108 ∷ words (0x4020C1B3 ∷ []))
 
 -- when the first block was made, a word that is not taken stood behind its ADDI, and ended it
 abbrev first_code : Code
@@ -40,10 +40,10 @@ first_turn = turn_of 0x30008 first_code (words (0x00500093 ∷ 0x4020C1B3 ∷ []
 
 -- when the second was made, other code stood behind its halfword
 abbrev second_code : Code
-second_code = held 0x80000004 (0x4501 ∷ 0xFFFF ∷ [])
+second_code = held 0x80000004 (0x4108 ∷ 0xFFFF ∷ [])
 
 abbrev second_turn : Turn
-second_turn = turn_of 0x30008 second_code (0x4501 ∷ 0xFFFF ∷ []) (leaves 10 9 0x80000006 1)
+second_turn = turn_of 0x30008 second_code (0x4108 ∷ 0xFFFF ∷ []) (leaves 10 9 0x80000006 1)
 
 -- the last word, refused before the code in front of it was this
 abbrev third_code : Code
@@ -67,7 +67,7 @@ three_kept = first_kept ∷ second_kept ∷ third_kept ∷ []
 -- the agreement itself says nothing of them
 first_changed : Unchanged (recoded first_turn now 4) 0x80000000 → ⊥
 unfolding words run_at
-first_changed e = let z : ◌≡◌ {A = ℕ} 0xC1B3 0x4501 = cc in omega arith
+first_changed e = let z : ◌≡◌ {A = ℕ} 0xC1B3 0x4108 = cc in omega arith
 
 -- 2. The premises, along the manual's run
 
@@ -193,7 +193,7 @@ second_taken : is_refused second_turn n1 ≡ false
 unfolding reads_a_turn
 second_taken = refl
 
-second_calls : (read_as second_turn n1).stop ≡ called for_halfword 0x4501
+second_calls : (read_as second_turn n1).stop ≡ called for_halfword 0x4108
 unfolding reads_a_turn
 second_calls = refl
 
@@ -219,7 +219,7 @@ three_met = (first_meets, first_current, λ e pc' rb rb' h w. rw (after_plain_le
       at_second,
       current_at,
       λ e pc' rb rb' h w.
-          let c = after_helper_lem n1 for_halfword 0x4501 second_taken second_calls h w in
+          let c = after_helper_lem n1 for_halfword 0x4108 second_taken second_calls h w in
           rw c.turned (third_met c.call.inside),
     )
 
@@ -251,7 +251,7 @@ pub record Three (es : List Event) : Type 0 where
   pub first_x1 : (read_turn (feed_now first_kept e0) n0).registers 1 ≡ 5
   pub first_pc : (read_turn (feed_now first_kept e0) n0).pc ≡ 0x80000004
   pub second_taken : refuses_now second_kept e1 n1 ≡ false
-  pub second_stop : (read_turn (feed_now second_kept e1) n1).stop ≡ called for_halfword 0x4501
+  pub second_stop : (read_turn (feed_now second_kept e1) n1).stop ≡ called for_halfword 0x4108
   pub third_refused : refuses_now third_kept e2 (n2 inside) ≡ true
   pub pc : (manual (feeds_now three_kept es) n0).pc ≡ 0x80000006
 
@@ -279,7 +279,7 @@ three_turns (e0 ∷ e1 ∷ e2 ∷ es) (then h (then h1 (then h2 hs))) a n = says
     w0 = after_plain_lem n0 first_taken first_plain h a.0
 
     w1 : WentHelped n1 second_turn e1
-    w1 = after_helper_lem n1 for_halfword 0x4501 second_taken second_calls h1 (rw w0.turned at a.1.0)
+    w1 = after_helper_lem n1 for_halfword 0x4108 second_taken second_calls h1 (rw w0.turned at a.1.0)
 
     u : State
     u = w1.call.inside

@@ -125,7 +125,7 @@ plain_meets =
 
 halfword_meets : MeetsAt halfword_turn 0x80000024
 halfword_meets =
-    turn_of_meets 0xFFFFFFFFFFFFFFF8 halfword_turn.code (0x4501 ∷ []) 10 9 0x80000031 1 0x80000024
+    turn_of_meets 0xFFFFFFFFFFFFFFF8 halfword_turn.code (0x4108 ∷ []) 10 9 0x80000031 1 0x80000024
     (record { above = omega arith; fits = omega arith; aligned = refl })
     (unfold run_at in refl) (omega arith) (omega arith) (omega arith)
 
@@ -160,7 +160,7 @@ last_met u = met_refused (after_helper halfword_turn u) odd_turn [] at_pc (fifth
 
 five_met : Met m0 five_turns
 five_met = met_from (plain_turn ∷ halfword_turn ∷ odd_turn ∷ []) (λ u. after_helper_met u (halfword_turn ∷ odd_turn ∷ []) (λ e.
-    met_helped (m3 u) halfword_turn (odd_turn ∷ []) for_halfword 0x4501 (rw e halfword_meets)
+    met_helped (m3 u) halfword_turn (odd_turn ∷ []) for_halfword 0x4108 (rw e halfword_meets)
     (fourth_taken (m3 u) e) (fourth_calls (m3 u) e) last_met))
 
 -- from register bytes that are all zero

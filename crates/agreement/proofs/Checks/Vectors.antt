@@ -8,13 +8,15 @@ use Rattle.agreement.proofs.Checks.Cases.Format.{I, S, B, U, J}
 use Rattle.agreement.proofs.Checks.Cases.Case.{immediate}
 use Rattle.agreement.proofs.Checks.CasesHold.{immediates, translations, tests}
 
--- a word translated alone at 0x80000000, with its n bytes: it goes on, it ends the block, it ends in a helper's call;
+-- a word translated alone at 0x80000000, with its n bytes: it goes on, it ends the block, it ends in a helper's call; the same of a
+-- compressed halfword;
 -- a word with rd x3, rs1 x1 and rs2 x2, which goes on, with its n bytes between loads and store; a word that goes on and has no bytes;
 -- a word not taken, number 4 if it is the first, with the n bytes that it leaves behind an ADDI, or none; a run of halfwords, the output's
 -- length, and the whole reply;
 -- the I, S, B, U and J immediate of a word, by both definitions
 data Vector : Type 0 where
   straight ending helped : (word n bytes : ℕ) → Vector
+  straight_half ending_half helped_half : (halfword n bytes : ℕ) → Vector
   between : (word n bytes : ℕ) → Vector
   silent : (word : ℕ) → Vector
   leaves : (word n bytes : ℕ) → Vector
@@ -25,9 +27,12 @@ data Vector : Type 0 where
 abbrev translated : ℕ → ℕ → List ℕ → ℕ → Reply
 translated start limit hs room = translate start limit hs 0x1111111111111111 0x2222222222222222 room
 
--- words whose block has count 1 and spans the first, and its bytes between opening and closing
+-- halfwords whose block has count 1 and spans so many bytes, and its bytes between opening and closing; words whose block spans the first
+abbrev single_of : List ℕ → ℕ → List ℕ → Bool
+single_of hs span bytes = is_reply (translated 0x80000000 64 hs 4099) 0 (length (framed bytes) ∷ 1 ∷ span ∷ []) (framed bytes)
+
 abbrev single : List ℕ → List ℕ → Bool
-single ws bytes = is_reply (translated 0x80000000 64 (words ws) 4099) 0 (length (framed bytes) ∷ 1 ∷ 4 ∷ []) (framed bytes)
+single ws bytes = single_of (words ws) 4 bytes
 
 abbrev refused : ℕ → Bool
 refused w = is_reply (translated 0x80000000 64 (words (w ∷ [])) 4099) 4 (w ∷ []) []
@@ -39,6 +44,9 @@ counts = dump 10 0x48BA0100000000000000
 abbrev goes_on : List ℕ
 goes_on = dump 10 0x48B80400008000000000 ++ counts
 
+abbrev goes_on_half : List ℕ
+goes_on_half = dump 10 0x48B80200008000000000 ++ counts
+
 -- 0x00500093 (ADDI x1, x0, 5)
 abbrev addi : List ℕ
 addi = dump 21 0x4C8B9300000000_4981C205000000_4C899308000000
@@ -47,6 +55,9 @@ abbrev passes : Vector → Bool
 passes (straight w n v) = single (w ∷ []) (dump n v ++ goes_on)
 passes (ending w n v) = single (w ∷ []) (dump n v ++ counts)
 passes (helped w n v) = single (w ∷ []) (dump n v)
+passes (straight_half h n v) = single_of (h ∷ []) 2 (dump n v ++ goes_on_half)
+passes (ending_half h n v) = single_of (h ∷ []) 2 (dump n v ++ counts)
+passes (helped_half h n v) = single_of (h ∷ []) 2 (dump n v)
 passes (between w n v) =
     single (w ∷ []) (dump 14 0x4C8B9308000000_4C8B9B10000000 ++ (dump n v ++ (dump 7 0x4C899318000000 ++ goes_on)))
 passes (silent w) = single (w ∷ []) goes_on
@@ -183,11 +194,11 @@ runs =
     ∷ run 0x80000000 64 (words (0x00500093 ∷ []) ++ 0x91B3 ∷ []) 4099 0 (88 ∷ 1 ∷ 4 ∷ [])  -- OP, its upper half missing
     (framed (dump 41 0x4C8B9300000000_4981C205000000_4C899308000000_48B80400008000000000_48BA0100000000000000))
     -- helper ends: earlier count 0, then 2
-    ∷ run 0x80000000 64 (0x4501 ∷ []) 4099 0 (88 ∷ 1 ∷ 2 ∷ [])  -- halfword
-    (framed (dump 41 0x4C89E7_4C89EE_4C89F2_48B90145000000000000_49B80000008000000000_48B81111111111111111_FFD0))
-    ∷ run 0x80000000 64 (words (0x00500093 ∷ 0xFFD08493 ∷ []) ++ 0x4501 ∷ []) 4099 0 (137 ∷ 3 ∷ 10 ∷ [])  -- halfword
+    ∷ run 0x80000000 64 (0x4108 ∷ []) 4099 0 (88 ∷ 1 ∷ 2 ∷ [])  -- halfword
+    (framed (dump 41 0x4C89E7_4C89EE_4C89F2_48B90841000000000000_49B80000008000000000_48B81111111111111111_FFD0))
+    ∷ run 0x80000000 64 (words (0x00500093 ∷ 0xFFD08493 ∷ []) ++ 0x4108 ∷ []) 4099 0 (137 ∷ 3 ∷ 10 ∷ [])  -- halfword
     (framed (dump 48 0x4C8B9300000000_4981C205000000_4C899308000000_4C8B9308000000_4981C2FDFFFFFF_4C899348000000_4C89E7_4C89EE
-    ++ dump 42 0x4C89F2_48B90145000000000000_49B80800008000000000_48B81111111111111111_FFD0_4881C202000000))
+    ++ dump 42 0x4C89F2_48B90841000000000000_49B80800008000000000_48B81111111111111111_FFD0_4881C202000000))
     ∷ run 0x80000000 64 (0x0000 ∷ 0x0093 ∷ []) 4099 0 (88 ∷ 1 ∷ 2 ∷ [])  -- halfword 0
     (framed (dump 41 0x4C89E7_4C89EE_4C89F2_48B90000000000000000_49B80000008000000000_48B81111111111111111_FFD0))
     ∷ run 0x80000000 64 (words (0x00813083 ∷ [])) 4099 0 (88 ∷ 1 ∷ 4 ∷ [])  -- LD
@@ -217,8 +228,8 @@ runs =
     (framed (dump 20 0x48B80001008000000000_48BA4000000000000000))
     ∷ run 0x80000000 4294967295 (copies 65 (words (0x0000000F ∷ []))) 4099 0 (67 ∷ 64 ∷ 256 ∷ [])  -- 2^32 - 1
     (framed (dump 20 0x48B80001008000000000_48BA4000000000000000))
-    ∷ run 0x80000000 64 (copies 63 (words (0x0000000F ∷ [])) ++ 0x0001 ∷ []) 4099 0 (95 ∷ 64 ∷ 254 ∷ [])  -- 64, halfword the 64th
-    (framed (dump 48 0x4C89E7_4C89EE_4C89F2_48B90100000000000000_49B8FC00008000000000_48B81111111111111111_FFD0_4881C23F000000))
+    ∷ run 0x80000000 64 (copies 63 (words (0x0000000F ∷ [])) ++ 0x4108 ∷ []) 4099 0 (95 ∷ 64 ∷ 254 ∷ [])  -- 64, halfword the 64th
+    (framed (dump 48 0x4C89E7_4C89EE_4C89F2_48B90841000000000000_49B8FC00008000000000_48B81111111111111111_FFD0_4881C23F000000))
     ∷ run 0x80000000 65 (copies 64 (words (0x0000000F ∷ [])) ++ 0x0001 ∷ []) 4099 0 (67 ∷ 64 ∷ 256 ∷ [])  -- 64, halfword the 65th
     (framed (dump 20 0x48B80001008000000000_48BA4000000000000000))
     ∷ run 0x80000000 1 (words (0x0000000F ∷ 0x022091B3 ∷ [])) 4099 0 (67 ∷ 1 ∷ 4 ∷ [])  -- 1, MULH behind
@@ -226,9 +237,19 @@ runs =
     ∷ run 0x80000000 64 (words (0x00500093 ∷ 0x00008463 ∷ 0xFFD08493 ∷ [])) 4099 0 (122 ∷ 2 ∷ 8 ∷ [])  -- BEQ ends the block
     (framed (dump 48 0x4C8B9300000000_4981C205000000_4C899308000000_4C8B9308000000_4C8B9B00000000_4D39DA_49BB0800008000000000
     ++ dump 27 0x48B80C00008000000000_4C0F44D8_4C89D8_48BA0200000000000000))
+    -- halfwords in line: before a helper's; the limit; both sizes, up to a branch
+    ∷ run 0x80000000 64 (0x0001 ∷ 0x4108 ∷ []) 4099 0 (109 ∷ 2 ∷ 4 ∷ [])  -- C.NOP, C.LW
+    (framed (dump 14 0x4C8B9300000000_4981C200000000
+    ++ dump 48 0x4C89E7_4C89EE_4C89F2_48B90841000000000000_49B80200008000000000_48B81111111111111111_FFD0_4881C201000000))
+    ∷ run 0x80000000 64 (copies 65 (0x0001 ∷ [])) 4099 0 (963 ∷ 64 ∷ 128 ∷ [])  -- 65 times C.NOP
+    (framed (copies 64 (dump 14 0x4C8B9300000000_4981C200000000) ++ dump 20 0x48B88000008000000000_48BA4000000000000000))
+    ∷ run 0x80000002 64 (0x0001 ∷ words (0x00500093 ∷ []) ++ 0xC111 ∷ 0x0001 ∷ []) 4099 0 (136 ∷ 3 ∷ 8 ∷ [])  -- C.NOP, ADDI, C.BEQZ
+    (framed (dump 35 0x4C8B9300000000_4981C200000000_4C8B9300000000_4981C205000000_4C899308000000
+    ++ dump 44 0x4C8B9350000000_4C8B9B00000000_4D39DA_49BB0A00008000000000_48B80C00008000000000_4C0F44D8_4C89D8
+    ++ dump 10 0x48BA0300000000000000))
     -- addresses go on from 2^64 - 1 to 0
-    ∷ run 0xFFFFFFFFFFFFFFFC 64 (words (0x0000000F ∷ 0x00001097 ∷ []) ++ 0x0001 ∷ []) 4099 0 (112 ∷ 3 ∷ 10 ∷ [])  -- AUIPC, halfword
-    (framed (dump 46 0x49BA0010000000000000_4C899308000000_4C89E7_4C89EE_4C89F2_48B90100000000000000_49B80400000000000000
+    ∷ run 0xFFFFFFFFFFFFFFFC 64 (words (0x0000000F ∷ 0x00001097 ∷ []) ++ 0x4108 ∷ []) 4099 0 (112 ∷ 3 ∷ 10 ∷ [])  -- AUIPC, halfword
+    (framed (dump 46 0x49BA0010000000000000_4C899308000000_4C89E7_4C89EE_4C89F2_48B90841000000000000_49B80400000000000000
     ++ dump 19 0x48B81111111111111111_FFD0_4881C202000000))
     ∷ run 0xFFFFFFFFFFFFFFFC 64 (words (0xFFDFF0EF ∷ [])) 4099 0 (84 ∷ 1 ∷ 4 ∷ [])  -- JAL, its link 0
     (framed (dump 37 0x49BA0000000000000000_4C899308000000_48B8F8FFFFFFFFFFFFFF_48BA0100000000000000)) ∷ []
@@ -258,6 +279,42 @@ fences =
     (framed (dump 20 0x48B80001008000000000_48BA4000000000000000))
     ∷ run 0x80000000 64 (copies 64 (words (0x0000100F ∷ []))) 4099 0 (67 ∷ 1 ∷ 4 ∷ [])  -- 64 times FENCE.I
     (framed (dump 20 0x48B80400008000000000_48BA0100000000000000)) ∷ []
+
+-- compressed halfwords: one of each row of the manual's listing that is in line, and two that are not. The words are an assembler's, the
+-- bytes are those that the original Rust wrote for them, its next pc and link 2 less
+each_halfword : List Vector
+each_halfword =
+    straight_half 0x0001 14 0x4C8B9300000000_4981C200000000  -- C.NOP
+    ∷ straight_half 0x0005 14 0x4C8B9300000000_4981C201000000  -- C.NOP 1, a hint
+    ∷ straight_half 0x0502 18 0x4C8B9350000000_49C1E200_4C899350000000  -- C.SLLI x10, 0, a hint
+    ∷ straight_half 0x852E 24 0x4C8B9300000000_4C8B9B58000000_4D01DA_4C899350000000  -- C.MV x10, x11
+    ∷ ending_half 0x9082 41 0x4C8B9308000000_4981C200000000_4981E2FEFFFFFF_49BB0200008000000000_4C899B08000000_4C89D0  -- C.JALR x1: the link is 2 behind
+    ∷ ending_half 0xC111 44 0x4C8B9350000000_4C8B9B00000000_4D39DA_49BB0200008000000000_48B80400008000000000_4C0F44D8_4C89D8  -- C.BEQZ x10, 4
+    ∷ straight_half 0x955A 24 0x4C8B9350000000_4C8B9BB0000000_4D01DA_4C899350000000  -- C.ADD
+    ∷ straight_half 0x09A5 21 0x4C8B9398000000_4981C209000000_4C899398000000  -- C.ADDI
+    ∷ straight_half 0x6169 21 0x4C8B9310000000_4981C2D0000000_4C899310000000  -- C.ADDI16SP
+    ∷ straight_half 0x14F4 21 0x4C8B9310000000_4981C26C020000_4C899368000000  -- C.ADDI4SPN
+    ∷ straight_half 0x2209 24 0x4C8B9320000000_4981C202000000_4D63D2_4C899320000000  -- C.ADDIW
+    ∷ straight_half 0x9CA5 27 0x4C8B9348000000_4C8B9B48000000_4501DA_4D63D2_4C899348000000  -- C.ADDW
+    ∷ straight_half 0x8CF1 24 0x4C8B9348000000_4C8B9B60000000_4D21DA_4C899348000000  -- C.AND
+    ∷ straight_half 0x99D9 21 0x4C8B9358000000_4981E2F6FFFFFF_4C899358000000  -- C.ANDI
+    ∷ ending_half 0xC3B5 44 0x4C8B9378000000_4C8B9B00000000_4D39DA_49BB0200008000000000_48B86400008000000000_4C0F44D8_4C89D8  -- C.BEQZ
+    ∷ ending_half 0xEDBD 44 0x4C8B9358000000_4C8B9B00000000_4D39DA_49BB0200008000000000_48B87E00008000000000_4C0F45D8_4C89D8  -- C.BNEZ
+    ∷ ending_half 0xA265 10 0x48B8A801008000000000  -- C.J
+    ∷ ending_half 0x9182 41 0x4C8B9318000000_4981C200000000_4981E2FEFFFFFF_49BB0200008000000000_4C899B08000000_4C89D0  -- C.JALR
+    ∷ ending_half 0x8702 24 0x4C8B9370000000_4981C200000000_4981E2FEFFFFFF_4C89D0  -- C.JR
+    ∷ straight_half 0x5AC1 21 0x4C8B9300000000_4981C2F0FFFFFF_4C8993A8000000  -- C.LI
+    ∷ straight_half 0x62D1 17 0x49BA0040010000000000_4C899328000000  -- C.LUI
+    ∷ straight_half 0x83FA 24 0x4C8B9300000000_4C8B9BF0000000_4D01DA_4C899338000000  -- C.MV
+    ∷ straight_half 0x8CCD 24 0x4C8B9348000000_4C8B9B58000000_4D09DA_4C899348000000  -- C.OR
+    ∷ straight_half 0x1222 18 0x4C8B9320000000_49C1E228_4C899320000000  -- C.SLLI
+    ∷ straight_half 0x8785 18 0x4C8B9378000000_49C1FA01_4C899378000000  -- C.SRAI
+    ∷ straight_half 0x807D 18 0x4C8B9340000000_49C1EA1F_4C899340000000  -- C.SRLI
+    ∷ straight_half 0x8C9D 24 0x4C8B9348000000_4C8B9B78000000_4D29DA_4C899348000000  -- C.SUB
+    ∷ straight_half 0x9D91 27 0x4C8B9358000000_4C8B9B60000000_4529DA_4D63D2_4C899358000000  -- C.SUBW
+    ∷ straight_half 0x8C3D 24 0x4C8B9340000000_4C8B9B78000000_4D31DA_4C899340000000  -- C.XOR
+    ∷ helped_half 0x9002 41 0x4C89E7_4C89EE_4C89F2_48B90290000000000000_49B80000008000000000_48B81111111111111111_FFD0  -- C.EBREAK
+    ∷ helped_half 0x9C45 41 0x4C89E7_4C89EE_4C89F2_48B9459C000000000000_49B80000008000000000_48B81111111111111111_FFD0 ∷ []  -- reserved
 
 -- every bit of a word by itself, then all of them
 bits : List Vector
@@ -299,6 +356,10 @@ bits =
 each_word_passes : pass each_word ≡ true
 unfolding immediates translations tests each_word
 each_word_passes = refl
+
+each_halfword_passes : pass each_halfword ≡ true
+unfolding immediates translations tests each_halfword
+each_halfword_passes = refl
 
 runs_pass : pass runs ≡ true
 unfolding immediates translations tests runs

@@ -6,11 +6,9 @@ use Rattle.agreement.specs.Statement.Agreement.{At, after}
 use Rattle.agreement.specs.Statement.Machine.{Event, since}
 use Rattle.agreement.specs.X86.Memory.{read}
 use Rattle.agreement.specs.X86.State.{State}
-use Rattle.agreement.proofs.Checks.Example.{first_pc, five_turns, halfword_turn, helper_turn, odd_turn, plain_turn, refused_turn}
-use Rattle.agreement.proofs.Checks.Example.{three_turns, zeros}
-use Rattle.agreement.proofs.Checks.ExampleStates.{AfterThree, Five, after_five, after_three, fifth_refused, first_refused_lem}
+use Rattle.agreement.proofs.Checks.Example.{first_pc, five_turns, halfword_turn, helper_turn, odd_turn, plain_turn, refused_turn, three_turns, zeros}
+use Rattle.agreement.proofs.Checks.ExampleStates.{AfterThree, Five, after_five, after_three, fifth_refused, first_refused_lem, third_taken}
 use Rattle.agreement.proofs.Checks.ExampleStates.{fourth_calls, fourth_taken, m0, m2, m3, second_calls, second_taken, third_plain}
-use Rattle.agreement.proofs.Checks.ExampleStates.{third_taken}
 use Rattle.agreement.proofs.Checks.PremisesMet.{five, three}
 use Rattle.agreement.proofs.Checks.WitnessEntries.{HalfwordSays, HelperSays, PlainSays, halfword_says, helper_says, plain_says}
 use Rattle.agreement.proofs.Theorem.Consequences.{WentHelped, WentPlainly, after_helper, refused_x0}
@@ -88,7 +86,7 @@ five_ends =
     let p : (m3 a).pc ≡ 0x80000024 = (after_three a).pc in
     ends_plain (m2 a) plain_turn (halfword_turn ∷ odd_turn ∷ []) (λ es. FiveTurns (e0 ∷ e1 ∷ es)) (third_taken a) (third_plain a) (λ e2 w2.
     ends_helped (m3 a) halfword_turn (odd_turn ∷ []) (λ es. FiveTurns (e0 ∷ e1 ∷ e2 ∷ es))
-    for_halfword 0x4501 (fourth_taken (m3 a) p) (fourth_calls (m3 a) p) (λ e3 w3.
+    for_halfword 0x4108 (fourth_taken (m3 a) p) (fourth_calls (m3 a) p) (λ e3 w3.
     let c : GuestState = after_helper halfword_turn w3.call.inside in
     ends_refused c odd_turn [] (λ es. FiveTurns (e0 ∷ e1 ∷ e2 ∷ e3 ∷ es)) (fifth_refused w3.call.inside) (λ e4 a4.
     ends_here c (λ es. FiveTurns (e0 ∷ e1 ∷ e2 ∷ e3 ∷ e4 ∷ es)) (says (e0 ∷ e1 ∷ e2 ∷ e3 ∷ e4 ∷ []) a e3 e4 w3 a4))))))

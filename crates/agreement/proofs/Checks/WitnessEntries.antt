@@ -243,7 +243,7 @@ pub record HalfwordSays (n : ℕ) (v : Visit) (c : Call) : Type 0 where
   pub entry : EntrySays 0xFFFFFFFFFFFFFFF8 0xFFFEFDFCFBFAF9F8 28 v
   pub stack : v.exit.regs RSP ≡ 0
   pub r8 : c.before.regs R8 ≡ 0x80000024
-  pub rcx : c.before.regs RCX ≡ 0x4501
+  pub rcx : c.before.regs RCX ≡ 0x4108
   pub rsp : c.before.regs RSP ≡ 0xFFFFFFFFFFFFFFC0
   pub aligned : c.before.regs RSP % 16 ≡ 0
   pub target : c.inside.rip ≡ 0x1111
@@ -272,9 +272,9 @@ pub halfword_says : {e : Event} (m : GuestState) (w : WentHelped m halfword_turn
     → HalfwordSays w.was.b.count w.was.v w.call
 unfolding leaves
 halfword_says m w e =
-    let k : Helped halfword_turn w.was.b.count w.was.v w.call (help m.registers 0x80000024 for_halfword 0x4501) =
+    let k : Helped halfword_turn w.was.b.count w.was.v w.call (help m.registers 0x80000024 for_halfword 0x4108) =
     rw (fourth_reads m e) at w.says in
-    let j = instruction_is k.h for_halfword k.i 0x4501 (sym k.stop) in
+    let j = instruction_is k.h for_halfword k.i 0x4108 (sym k.stop) in
     let s = entry_says 0xFFFFFFFFFFFFFFF8 0xFFFEFDFCFBFAF9F8 28 _ _ _ m _ w.was halfword_numbers (halfword_instructions m)
     (halfword_undivided m e) in
     record {

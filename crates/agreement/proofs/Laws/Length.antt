@@ -1,12 +1,12 @@
 -- No block is shorter than 67 or longer than 4,099 bytes.
-use Rattle.std.proofs.Common.{Bool, cond, false, true, List, [], ◌++◌, ◌∷◌, ◌≡◌, refl, ◌%◌, ◌*◌, ◌+◌, ◌-◌, ◌^◌, ◌≤◌, min, suc, zero, ℕ}
+use Rattle.std.proofs.Common.{Bool, cond, false, true, List, [], ◌++◌, ◌∷◌, ◌≡◌, refl, ◌%◌, ◌*◌, ◌+◌, ◌-◌, ◌^◌, ◌≤◌, min, suc, zero, ℕ, drop}
 use Rattle.std.proofs.Common.{arith, bit_and, eqb, ltb, length, length-append}
+use Rattle.std.proofs.Math.Option.{Option, none, some}
 use Rattle.agreement.specs.Common.{Helper, Helper.for_access, Helper.for_halfword, greatest, most_steps}
 use Rattle.agreement.specs.Laws.{Lengths}
 use Rattle.agreement.specs.Riscv.Fields.{plus}
 use Rattle.agreement.specs.Riscv.Instruction.{Branch, Instruction, Op, OpImm}
-use Rattle.agreement.specs.Riscv.Instruction.Instruction.{AUIPC, FENCE, FENCE_I, JAL, JALR, LUI, access, branch, op, op_imm, other}
-use Rattle.agreement.specs.Riscv.Instruction.Instruction.{unmodelled}
+use Rattle.agreement.specs.Riscv.Instruction.Instruction.{AUIPC, FENCE, FENCE_I, JAL, JALR, LUI, access, branch, op, op_imm, other, unmodelled}
 use Rattle.agreement.specs.Riscv.Instruction.Op.{ADD, ADDW, AND, MUL, MULW, OR, SLL, SLLW, SLT, SLTU, SRA, SRAW, SRL, SRLW, SUB, SUBW}
 use Rattle.agreement.specs.Riscv.Instruction.Op.{XOR, DIV, DIVU, DIVUW, DIVW, MULH, MULHSU, MULHU, REM, REMU, REMUW, REMW}
 use Rattle.agreement.specs.Riscv.Instruction.OpImm.{ADDI, ADDIW, ANDI, ORI, SLLI, SLLIW, SLTI, SLTIU, SRAI, SRAIW, SRLI, SRLIW, XORI}
@@ -17,8 +17,8 @@ use Rattle.agreement.specs.Translation.Replies.{Block, First, Refusal, Reply, bl
 use Rattle.agreement.specs.Translation.Replies.First.{begins, lacks, untaken}
 use Rattle.agreement.specs.Translation.Replies.Refusal.{limit_zero, odd_start, output_short}
 use Rattle.agreement.specs.Translation.Replies.Reply.{block, refusal}
-use Rattle.agreement.specs.Translation.Walk.{End, Walked, before, emit, ending, helper_at, helps, instrs, jumps, not_taken_at, stops_at}
-use Rattle.agreement.specs.Translation.Walk.{stops_behind, walk}
+use Rattle.agreement.specs.Translation.Walk.{End, Walked, before, emit, ending, helper_at, helps, instrs, jumps, not_taken_at, stops_at, emit_word}
+use Rattle.agreement.specs.Translation.Walk.{stops_behind, walk, emit_halfword}
 use Rattle.agreement.specs.Translation.Walk.End.{calls, goes_on, jumped}
 use Rattle.agreement.specs.Statement.Agreement.{start}
 use Rattle.agreement.specs.X86.Encode.{bytes}
@@ -28,6 +28,7 @@ use Rattle.agreement.specs.X86.Form.Instr.{alu_imm32, call_rax, mov, mov_imm64, 
 use Rattle.agreement.proofs.Host.Straight.{bytes-append}
 use Rattle.agreement.proofs.Laws.Leftover.{leftover_by}
 use Rattle.agreement.specs.Translation.Decode32 as Decode32
+use Rattle.agreement.specs.Translation.Decode16.{expand}
 
 abbrev len : List Instr → ℕ
 len is = length (bytes is)
@@ -157,15 +158,15 @@ pub record Sized (n : ℕ) (p : Walked) : Type 0 where
   pub low : 35 ≤ len p.code + least p.end
   pub high : len p.code + most p.end ≤ 63 * n + 35
 
-sized_before : (n : ℕ) (is : List Instr) (p : Walked) → len is ≤ 63 → Sized n p → Sized (suc n) (before is p)
-sized_before n is p l s = record {
+sized_before : (n z : ℕ) (is : List Instr) (p : Walked) → len is ≤ 63 → Sized n p → Sized (suc n) (before z is p)
+sized_before n z is p l s = record {
   low = rw (len-append is p.code) (omega (arith, s.low));
   high = rw (len-append is p.code) (omega (arith, s.high));
 }
 
-sized_jumps : (n : ℕ) (is : List Instr) → 10 ≤ len is → len is ≤ 44 → Sized (suc n) (jumps is)
+sized_jumps : (n z : ℕ) (is : List Instr) → 10 ≤ len is → len is ≤ 44 → Sized (suc n) (jumps z is)
 unfolding least most
-sized_jumps n is l k = record { low = omega arith; high = omega arith }
+sized_jumps n z is l k = record { low = omega arith; high = omega arith }
 
 sized_not_taken : (n pc w : ℕ) → Sized (suc n) (not_taken_at pc w)
 unfolding least most
@@ -177,60 +178,63 @@ sized_stops : (n pc : ℕ) → Sized n (stops_at pc)
 unfolding least most
 sized_stops n pc = record { low = omega arith; high = omega arith }
 
-sized_stops_behind : (n : ℕ) (is : List Instr) (pc : ℕ) → len is ≤ 34 → Sized (suc n) (stops_behind is pc)
+sized_stops_behind : (n z : ℕ) (is : List Instr) (pc : ℕ) → len is ≤ 34 → Sized (suc n) (stops_behind z is pc)
 unfolding least most
-sized_stops_behind n is pc l = record { low = omega arith; high = omega (arith, l) }
+sized_stops_behind n z is pc l = record { low = omega arith; high = omega (arith, l) }
 
 sized_helps : (n : ℕ) (h : Helper) (i pc : ℕ) → Sized (suc n) (helps h i pc)
 unfolding least most
 sized_helps n h i pc = record { low = omega arith; high = omega arith }
 
-sized_emit : (i : Instruction) (n pc w : ℕ) (p : Walked) → Sized n p → Sized (suc n) (emit i pc w p)
+sized_emit : (i : Instruction) (n z pc w : ℕ) (p : Walked) → Sized n p → Sized (suc n) (emit i z pc w p)
 unfolding emit
-sized_emit (op o) n pc w p s =
-    sized_before n (code_op o (Decode32.rd w) (Decode32.rs1 w) (Decode32.rs2 w)) p
+sized_emit (op o) n z pc w p s =
+    sized_before n z (code_op o (Decode32.rd w) (Decode32.rs1 w) (Decode32.rs2 w)) p
     (len_op o (Decode32.rd w) (Decode32.rs1 w) (Decode32.rs2 w)) s
-sized_emit (op_imm o) n pc w p s =
-    sized_before n (code_op_imm o (Decode32.rd w) (Decode32.rs1 w) (Decode32.imm32 w) (Decode32.shamt w) (Decode32.shamt_w w)) p
+sized_emit (op_imm o) n z pc w p s =
+    sized_before n z (code_op_imm o (Decode32.rd w) (Decode32.rs1 w) (Decode32.imm32 w) (Decode32.shamt w) (Decode32.shamt_w w)) p
     (omega (arith, len_imm o (Decode32.rd w) (Decode32.rs1 w) (Decode32.imm32 w) (Decode32.shamt w) (Decode32.shamt_w w))) s
-sized_emit LUI n pc w p s =
-    sized_before n (code_const (Decode32.rd w) (Decode32.imm_u w)) p (omega (arith, len_const (Decode32.rd w) (Decode32.imm_u w))) s
-sized_emit AUIPC n pc w p s =
-    sized_before n (code_const (Decode32.rd w) (plus pc (Decode32.imm_u w))) p
+sized_emit LUI n z pc w p s =
+    sized_before n z (code_const (Decode32.rd w) (Decode32.imm_u w)) p (omega (arith, len_const (Decode32.rd w) (Decode32.imm_u w))) s
+sized_emit AUIPC n z pc w p s =
+    sized_before n z (code_const (Decode32.rd w) (plus pc (Decode32.imm_u w))) p
     (omega (arith, len_const (Decode32.rd w) (plus pc (Decode32.imm_u w)))) s
-sized_emit FENCE n pc w p s = sized_before n [] p (omega arith) s
-sized_emit FENCE_I n pc w p s = sized_stops_behind n [] _ (omega arith)
-sized_emit (branch c) n pc w p s =
-    let l = len_branch c (Decode32.rs1 w) (Decode32.rs2 w) (plus pc 4) (plus pc (Decode32.imm_b w)) in
-    sized_jumps n (code_branch c (Decode32.rs1 w) (Decode32.rs2 w) (plus pc 4) (plus pc (Decode32.imm_b w))) (omega arith) (omega arith)
-sized_emit JAL n pc w p s =
-    let l = len_jal (Decode32.rd w) (plus pc 4) (plus pc (Decode32.imm_j w)) in
-    sized_jumps n (code_jal (Decode32.rd w) (plus pc 4) (plus pc (Decode32.imm_j w))) l.0 (omega (arith, l.1))
-sized_emit JALR n pc w p s =
-    let l = len_jalr (Decode32.rd w) (Decode32.rs1 w) (Decode32.imm32 w) (plus pc 4) in
-    sized_jumps n (code_jalr (Decode32.rd w) (Decode32.rs1 w) (Decode32.imm32 w) (plus pc 4)) l.0 (omega (arith, l.1))
-sized_emit (access a) n pc w p s = sized_helps n for_access w pc
-sized_emit (unmodelled o) n pc w p s = sized_not_taken n pc w
-sized_emit other n pc w p s = sized_not_taken n pc w
+sized_emit FENCE n z pc w p s = sized_before n z [] p (omega arith) s
+sized_emit FENCE_I n z pc w p s = sized_stops_behind n z [] _ (omega arith)
+sized_emit (branch c) n z pc w p s =
+    let l = len_branch c (Decode32.rs1 w) (Decode32.rs2 w) (plus pc z) (plus pc (Decode32.imm_b w)) in
+    sized_jumps n z (code_branch c (Decode32.rs1 w) (Decode32.rs2 w) (plus pc z) (plus pc (Decode32.imm_b w))) (omega arith) (omega arith)
+sized_emit JAL n z pc w p s =
+    let l = len_jal (Decode32.rd w) (plus pc z) (plus pc (Decode32.imm_j w)) in
+    sized_jumps n z (code_jal (Decode32.rd w) (plus pc z) (plus pc (Decode32.imm_j w))) l.0 (omega (arith, l.1))
+sized_emit JALR n z pc w p s =
+    let l = len_jalr (Decode32.rd w) (Decode32.rs1 w) (Decode32.imm32 w) (plus pc z) in
+    sized_jumps n z (code_jalr (Decode32.rd w) (Decode32.rs1 w) (Decode32.imm32 w) (plus pc z)) l.0 (omega (arith, l.1))
+sized_emit (access a) n z pc w p s = sized_helps n for_access w pc
+sized_emit (unmodelled o) n z pc w p s = sized_not_taken n pc w
+sized_emit other n z pc w p s = sized_not_taken n pc w
+
+sized_long : (n pc x : ℕ) (hs : List ℕ) (p : Walked) → Sized n p → Sized (suc n) (emit_word pc x hs p)
+sized_long n pc x [] p s = sized_stops (suc n) pc
+sized_long n pc x (y ∷ hs) p s = sized_emit (kind (Decode32.word_of x y)) n 4 pc (Decode32.word_of x y) p s
+
+sized_short : (o : Option ℕ) (n pc x : ℕ) (p : Walked) → Sized n p → Sized (suc n) (emit_halfword o pc x p)
+sized_short none n pc x p s = sized_helps n for_halfword x pc
+sized_short (some w) n pc x p s = sized_emit (kind w) n 2 pc w p s
 
 pub sized : (n pc : ℕ) (hs : List ℕ) → Sized n (walk n pc hs)
 unfolding walk
 sized zero pc hs = sized_stops zero pc
 sized (suc n) pc [] = sized_stops (suc n) pc
-sized (suc n) pc (x ∷ []) = go (eqb (bit_and x 0x3) 0x3)
+sized (suc n) pc (x ∷ hs) = go (eqb (bit_and x 0x3) 0x3) (sized n (plus pc 4) (drop 1 hs)) (sized n (plus pc 2) hs)
   where
-    go : (t : Bool) → Sized (suc n) (elim t [ true ↦ stops_at pc | false ↦ helps for_halfword x pc ])
-    go true = sized_stops (suc n) pc
-    go false = sized_helps n for_halfword x pc
-sized (suc n) pc (x ∷ y ∷ hs) = go (eqb (bit_and x 0x3) 0x3) (sized n (plus pc 4) hs)
-  where
-    w : ℕ
-    w = Decode32.word_of x y
-
-    go : (t : Bool) → Sized n (walk n (plus pc 4) hs)
-        → Sized (suc n) (elim t [ true ↦ emit (kind w) pc w (walk n (plus pc 4) hs) | false ↦ helps for_halfword x pc ])
-    go true s = sized_emit (kind w) n pc w (walk n (plus pc 4) hs) s
-    go false s = sized_helps n for_halfword x pc
+    go : (t : Bool) → Sized n (walk n (plus pc 4) (drop 1 hs)) → Sized n (walk n (plus pc 2) hs)
+        → Sized (suc n) (elim t [
+          | true ↦ emit_word pc x hs (walk n (plus pc 4) (drop 1 hs))
+          | false ↦ emit_halfword (expand x) pc x (walk n (plus pc 2) hs)
+        ])
+    go true l s = sized_long n pc x hs _ l
+    go false l s = sized_short (expand x) n pc x _ s
 
 -- 3. The block
 

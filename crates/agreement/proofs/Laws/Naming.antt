@@ -1,6 +1,5 @@
 -- The translator's tests name a word as the manual's listing does where document 01 chooses that name, and else not at all.
-use Rattle.std.proofs.Common.{Bool, cond, false, true, List, [], ◌∷◌, ◌∙◌, ◌≡◌, ap, refl, subst, sym, ◌<◌, suc, zero, ℕ}
-use Rattle.std.proofs.Common.{arith, eqb, eqb→eq}
+use Rattle.std.proofs.Common.{Bool, cond, false, true, List, [], ◌∷◌, ◌∙◌, ◌≡◌, ap, refl, subst, sym, ◌<◌, suc, zero, ℕ, arith, eqb, eqb→eq}
 use native.Mathlib.Decide.{ℕ_discrete}
 use Rattle.agreement.specs.Laws.{TakenAlike}
 use Rattle.agreement.specs.Riscv.Fields.{funct3, funct6, funct7, opcode}
@@ -17,15 +16,15 @@ abbrev opcodes : List ℕ
 opcodes = 0x73 ∷ 0x37 ∷ 0x17 ∷ 0x6F ∷ 0x67 ∷ 0x63 ∷ 0x13 ∷ 0x1B ∷ 0x33 ∷ 0x3B ∷ 0x0F ∷ 0x03 ∷ 0x23 ∷ []
 
 -- a name where it is chosen, and else none: `taken` is this of what the listing names
-abbrev if_chosen : Instruction → Instruction
+abbrev pub if_chosen : Instruction → Instruction
 if_chosen i = cond (chosen i) i other
 
 -- the listing, its rows renamed so
-abbrev renamed : List Row → List Row
+abbrev pub renamed : List Row → List Row
 renamed [] = []
 renamed (r ∷ rs) = row (if_chosen r.name) r.code r.three r.top ∷ renamed rs
 
-abbrev rows : List Row
+abbrev pub rows : List Row
 rows = renamed listing
 
 -- 1. By opcode: a property that holds of each in a list, and where none of them is met, holds of all
@@ -48,7 +47,7 @@ by_opcode P o (x ∷ xs) h f = go (ℕ_discrete o x) (by_opcode P o xs h.1)
     go (no n) k = k (λ m. f (eqb_no o x n, m))
 
 -- the eight values of funct3
-eight : (P : ℕ → Type 0) → P 0 → P 1 → P 2 → P 3 → P 4 → P 5 → P 6 → P 7 → (f : ℕ) → f < 8 → P f
+pub eight : (P : ℕ → Type 0) → P 0 → P 1 → P 2 → P 3 → P 4 → P 5 → P 6 → P 7 → (f : ℕ) → f < 8 → P f
 eight P a b c d e g h i zero l = a
 eight P a b c d e g h i (suc zero) l = b
 eight P a b c d e g h i (suc (suc zero)) l = c
@@ -176,7 +175,7 @@ if_chosen_cond : (c : Bool) (x y : Instruction) → if_chosen (cond c x y) ≡ c
 if_chosen_cond true x y = refl
 if_chosen_cond false x y = refl
 
-find_renamed : (o f s t w : ℕ) (rs : List Row) → if_chosen (find o f s t w rs) ≡ find o f s t w (renamed rs)
+pub find_renamed : (o f s t w : ℕ) (rs : List Row) → if_chosen (find o f s t w rs) ≡ find o f s t w (renamed rs)
 unfolding find
 find_renamed o f s t w [] = refl
 find_renamed o f s t w (r ∷ rs) =

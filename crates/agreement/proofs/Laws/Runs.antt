@@ -1,5 +1,5 @@
 -- Runs of the guest's code: code that has changed elsewhere has the same run, and every run is the run of some code.
-use Rattle.std.proofs.Common.{◌≡◌, refl, ap, ◌∙◌, ◌≢◌, cond, List, [], ◌∷◌, ℕ, zero, suc, ◌+◌, ◌*◌, ◌/◌, ◌%◌, ◌^◌, ◌≤◌, ◌<◌, arith, eqb}
+use Rattle.std.proofs.Common.{◌≡◌, refl, ap, ◌∙◌, ◌≢◌, cond, List, [], ◌∷◌, ℕ, zero, suc, ◌+◌, ◌*◌, ◌/◌, ◌%◌, ◌^◌, ◌≤◌, ◌<◌, arith, eqb, drop}
 use Rattle.std.proofs.Common.{length, sym, take}
 use mathlib.Core.Option.{Option, none, some}
 use Rattle.agreement.specs.Riscv.Code.{Code, SameIn, front, run_at}
@@ -64,6 +64,20 @@ run_halfwords c pc (suc n) = go (c pc) (run_halfwords c (plus pc 2) n)
     go : (o : Option ℕ) → Halfwords (run_at c (plus pc 2) n) → Halfwords (front o (run_at c (plus pc 2) n))
     go none r = tt
     go (some h) r = (omega arith, r)
+
+-- the front of a run of halfwords, and what follows it
+pub halfwords_front : (g : ℕ) (hs : List ℕ) → Halfwords (g ∷ hs) → g < 2 ^ 16
+unfolding Halfwords
+halfwords_front g hs l = l.0
+
+pub halfwords_tail : (g : ℕ) (hs : List ℕ) → Halfwords (g ∷ hs) → Halfwords hs
+unfolding Halfwords
+halfwords_tail g hs l = l.1
+
+pub halfwords_drop : (g : ℕ) (hs : List ℕ) → Halfwords (g ∷ hs) → Halfwords (drop 1 hs)
+unfolding Halfwords
+halfwords_drop g [] l = tt
+halfwords_drop g (u ∷ hs) l = l.1.1
 
 pub runs_alike : RunsAlike
 unfolding RunsAlike

@@ -99,6 +99,8 @@ module _ (pc limit : ℕ) (made : List ℕ) (helper16 helper_mem room : ℕ) (b 
     low = omega (arith, span_is, read_of.least, begun);
     high = omega (arith, span_is, read_of.most, read_of.few);
     even = omega (arith, span_is);
+    least = omega (arith, span_is, count_is, read_of.least);
+    most = omega (arith, span_is, count_is, read_of.most);
     there = omega (arith, span_is, read_of.within);
   }
 

@@ -1,14 +1,13 @@
 -- The manual's run by itself: it keeps x0 and a 64-bit pc, and how a turn changes its state.
-use Rattle.std.proofs.Common.{Bool, cond, false, true, List, [], ◌∷◌, ◌∙◌, ◌≡◌, refl, sym, ◌+◌, ◌<◌, ◌^◌, suc, zero, ℕ, arith, eqb}
-use mathlib.Core.Option.{some}
+use Rattle.std.proofs.Common.{Bool, cond, false, true, List, [], ◌∷◌, ◌∙◌, ◌≡◌, refl, sym, ◌+◌, ◌<◌, ◌^◌, suc, zero, ℕ, arith, eqb, drop}
 use native.Mathlib.Decide.{ℕ_discrete}
-use Rattle.agreement.specs.Common.{Helper, Helper.for_halfword}
+use Rattle.std.proofs.Math.Option.{Option, none, some}
+use Rattle.agreement.specs.Common.{Helper}
 use Rattle.agreement.specs.Riscv.Fields.{plus, rd, rs1, rs2}
 use Rattle.agreement.specs.Riscv.Instruction.{Instruction, branches}
-use Rattle.agreement.specs.Riscv.Instruction.Instruction.{AUIPC, FENCE, FENCE_I, JAL, JALR, LUI, access, branch, op, op_imm, other}
-use Rattle.agreement.specs.Riscv.Instruction.Instruction.{unmodelled}
-use Rattle.agreement.specs.Riscv.Run.{Feed, GuestState, Left, Read, Registers, does, halt, help, is_long, one_more, read_turn, reading}
-use Rattle.agreement.specs.Riscv.Run.{refused, resume, run_of, settle, taken, turn, word_of, write_x}
+use Rattle.agreement.specs.Riscv.Instruction.Instruction.{AUIPC, FENCE, FENCE_I, JAL, JALR, LUI, access, branch, op, op_imm, other, unmodelled}
+use Rattle.agreement.specs.Riscv.Run.{Feed, GuestState, Left, Read, Registers, does, is_long, one_more, read_turn, reading, in_line, does_halfword}
+use Rattle.agreement.specs.Riscv.Run.{refused, resume, run_of, settle, taken, turn, word_of, write_x, does_word}
 use Rattle.agreement.specs.Riscv.Run.Stop.{called, plain}
 use Rattle.agreement.proofs.Laws.Tests.{eqb_no, eqb_yes}
 use Rattle.agreement.specs.Riscv.Immediates as Manual
@@ -29,44 +28,52 @@ write_x0 x d v = go (ℕ_discrete d 0)
 stays_on : (x : Registers) (d v : ℕ) (k : Registers → Read) → ((x : Registers) → Stays x (k x)) → Stays x (one_more (k (write_x x d v)))
 stays_on x d v k f = let r = f (write_x x d v) in record { x0 = r.x0 ∙ write_x0 x d v; low = r.low }
 
-stays_does : (i : Instruction) (pc w : ℕ) (x : Registers) (k : Registers → Read)
-    → pc < 2 ^ 64 → ((x : Registers) → Stays x (k x)) → Stays x (does i pc w x k)
+stays_does : (i : Instruction) (z pc w : ℕ) (x : Registers) (k : Registers → Read)
+    → pc < 2 ^ 64 → ((x : Registers) → Stays x (k x)) → Stays x (does i z pc w x k)
 unfolding does
-stays_does (op o) pc w x k h f = stays_on x (rd w) _ k f
-stays_does (op_imm o) pc w x k h f = stays_on x (rd w) _ k f
-stays_does LUI pc w x k h f = stays_on x (rd w) _ k f
-stays_does AUIPC pc w x k h f = stays_on x (rd w) _ k f
-stays_does FENCE pc w x k h f = let r = f x in record { x0 = r.x0; low = r.low }
-stays_does FENCE_I pc w x k h f = record { x0 = refl; low = omega arith }
-stays_does (branch c) pc w x k h f = record { x0 = refl; low = go (branches c (x (rs1 w)) (x (rs2 w))) }
+stays_does (op o) z pc w x k h f = stays_on x (rd w) _ k f
+stays_does (op_imm o) z pc w x k h f = stays_on x (rd w) _ k f
+stays_does LUI z pc w x k h f = stays_on x (rd w) _ k f
+stays_does AUIPC z pc w x k h f = stays_on x (rd w) _ k f
+stays_does FENCE z pc w x k h f = let r = f x in record { x0 = r.x0; low = r.low }
+stays_does FENCE_I z pc w x k h f = record { x0 = refl; low = omega arith }
+stays_does (branch c) z pc w x k h f = record { x0 = refl; low = go (branches c (x (rs1 w)) (x (rs2 w))) }
   where
-    go : (t : Bool) → cond t (plus pc (Manual.imm_b w)) (plus pc 4) < 2 ^ 64
+    go : (t : Bool) → cond t (plus pc (Manual.imm_b w)) (plus pc z) < 2 ^ 64
     go true = omega arith
     go false = omega arith
-stays_does JAL pc w x k h f = record { x0 = write_x0 x (rd w) _; low = omega arith }
-stays_does JALR pc w x k h f = record { x0 = write_x0 x (rd w) _; low = omega arith }
-stays_does (access a) pc w x k h f = record { x0 = refl; low = h }
-stays_does (unmodelled o) pc w x k h f = record { x0 = refl; low = h }
-stays_does other pc w x k h f = record { x0 = refl; low = h }
+stays_does JAL z pc w x k h f = record { x0 = write_x0 x (rd w) _; low = omega arith }
+stays_does JALR z pc w x k h f = record { x0 = write_x0 x (rd w) _; low = omega arith }
+stays_does (access a) z pc w x k h f = record { x0 = refl; low = h }
+stays_does (unmodelled o) z pc w x k h f = record { x0 = refl; low = h }
+stays_does other z pc w x k h f = record { x0 = refl; low = h }
+
+stays_long : (pc g : ℕ) (hs : List ℕ) (x : Registers) (k : Registers → Read)
+    → pc < 2 ^ 64 → ((x : Registers) → Stays x (k x)) → Stays x (does_word pc g hs x k)
+stays_long pc g [] x k h f = record { x0 = refl; low = h }
+stays_long pc g (u ∷ hs) x k h f = stays_does (taken (word_of g u)) 4 pc (word_of g u) x k h f
+
+stays_short : (o : Option ℕ) (pc g : ℕ) (x : Registers) (k : Registers → Read)
+    → pc < 2 ^ 64 → ((x : Registers) → Stays x (k x)) → Stays x (does_halfword o pc g x k)
+stays_short none pc g x k h f = record { x0 = refl; low = h }
+stays_short (some w) pc g x k h f = stays_does (taken w) 2 pc w x k h f
 
 pub stays : (n pc : ℕ) (hs : List ℕ) (x : Registers) → pc < 2 ^ 64 → Stays x (reading n pc hs x)
 unfolding reading
 stays zero pc hs x h = record { x0 = refl; low = h }
 stays (suc n) pc [] x h = record { x0 = refl; low = h }
-stays (suc n) pc (g ∷ []) x h = go (is_long g)
+stays (suc n) pc (g ∷ hs) x h =
+    go (is_long g) (λ x. stays n (plus pc 4) (drop 1 hs) x (omega arith)) (λ x. stays n (plus pc 2) hs x (omega arith))
   where
-    go : (t : Bool) → Stays x (elim t [ true ↦ halt x pc | false ↦ help x pc for_halfword g ])
-    go true = record { x0 = refl; low = h }
-    go false = record { x0 = refl; low = h }
-stays (suc n) pc (g ∷ u ∷ hs) x h = go (is_long g) (λ x. stays n (plus pc 4) hs x (omega arith))
-  where
-    w : ℕ
-    w = word_of g u
+    Follows : ℕ → List ℕ → Type 0
+    Follows z hs = (x : Registers) → Stays x (reading n (plus pc z) hs x)
 
-    go : (t : Bool) → ((x : Registers) → Stays x (reading n (plus pc 4) hs x))
-        → Stays x (elim t [ true ↦ does (taken w) pc w x (reading n (plus pc 4) hs) | false ↦ help x pc for_halfword g ])
-    go true f = stays_does (taken w) pc w x (reading n (plus pc 4) hs) h f
-    go false f = record { x0 = refl; low = h }
+    go : (t : Bool) → Follows 4 (drop 1 hs) → Follows 2 hs → Stays x (elim t [
+      | true ↦ does_word pc g hs x (reading n (plus pc 4) (drop 1 hs))
+      | false ↦ does_halfword (in_line g) pc g x (reading n (plus pc 2) hs)
+    ])
+    go true f k = stays_long pc g hs x _ h f
+    go false f k = stays_short (in_line g) pc g x _ h k
 
 -- the state after a turn
 pub turn_plain : (f : Feed) (m : GuestState) → refused f.limit m.pc (run_of f m) f.room ≡ false → (read_turn f m).stop ≡ plain

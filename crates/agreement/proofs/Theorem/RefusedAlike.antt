@@ -1,25 +1,27 @@
 -- The table of replies and the manual's own reading of it refuse the same turns; bounds of a walk.
-use Rattle.std.proofs.Common.{Bool, cond, false, true, List, [], ◌∷◌, ◌∙◌, ◌≡◌, refl, subst, sym, ◌%◌, ◌<◌, ◌^◌, ◌≤◌, suc, zero, ℕ, arith}
+use Rattle.std.proofs.Common.{Bool, cond, false, true, List, [], ◌∷◌, ◌∙◌, ◌≡◌, refl, subst, sym, ◌%◌, ◌<◌, ◌^◌, ◌≤◌, suc, zero, ℕ, arith, drop}
 use Rattle.std.proofs.Common.{bit_and, eqb, ltb}
-use Rattle.agreement.specs.Common.{Helper.for_halfword, greatest}
+use Rattle.std.proofs.Math.Option.{Option, none, some}
+use Rattle.agreement.specs.Common.{greatest}
 use Rattle.agreement.specs.Riscv.Fields.{plus}
 use Rattle.agreement.specs.Riscv.Instruction.{Instruction}
-use Rattle.agreement.specs.Riscv.Instruction.Instruction.{AUIPC, FENCE, FENCE_I, JAL, JALR, LUI, access, branch, op, op_imm, other}
-use Rattle.agreement.specs.Riscv.Instruction.Instruction.{unmodelled}
-use Rattle.agreement.specs.Riscv.Run.{chosen, first_refused, is_long, is_not_taken, refused, taken, word_of}
+use Rattle.agreement.specs.Riscv.Instruction.Instruction.{AUIPC, FENCE, FENCE_I, JAL, JALR, LUI, access, branch, op, op_imm, other, unmodelled}
+use Rattle.agreement.specs.Riscv.Run.{chosen, first_refused, is_long, is_not_taken, refused, taken, word_of, in_line}
 use Rattle.agreement.specs.Translation.Kind.{kind}
 use Rattle.agreement.specs.Translation.Replies.{Block, Refusal, Reply, block_of, by_first, first, first_word, translate, walked}
 use Rattle.agreement.specs.Translation.Replies.First.{begins, lacks, untaken}
 use Rattle.agreement.specs.Translation.Replies.Refusal.{limit_zero, missing, not_taken, odd_start, output_short}
 use Rattle.agreement.specs.Translation.Replies.Reply.{block, refusal}
-use Rattle.agreement.specs.Translation.Walk.{End, End.calls, End.goes_on, End.jumped, Walked, emit, helps, stops_at, walk}
+use Rattle.agreement.specs.Translation.Walk.{End, End.calls, End.goes_on, End.jumped, Walked, emit, walk, emit_word, emit_halfword}
 use Rattle.agreement.specs.Statement.Machine.{Turn}
 use Rattle.agreement.specs.Statement.Premises.{Unchanged}
 use Rattle.agreement.specs.Laws.{Halfwords}
-use Rattle.agreement.proofs.Laws.Runs.{run_halfwords}
+use Rattle.agreement.proofs.Laws.Runs.{run_halfwords, halfwords_front, halfwords_drop, halfwords_tail}
 use Rattle.agreement.proofs.Laws.Fields.{long_is, word_of_is}
 use Rattle.agreement.proofs.Laws.Naming.{kind_is}
 use Rattle.agreement.specs.Translation.Decode32 as Decode32
+use Rattle.agreement.specs.Translation.Decode16.{expand}
+use Rattle.agreement.proofs.Laws.Expanding.{expand_is, in_line_lt}
 
 -- 1. The first instruction
 
@@ -114,31 +116,25 @@ pub record Bounds (n : ℕ) (p : Walked) : Type 0 where
   pub end_ok : EndOk p.end
   pub few : p.added ≤ n
 
-emit_ok : (i : Instruction) (n pc w : ℕ) (p : Walked) → pc < 2 ^ 64 → w < 2 ^ 32 → Bounds n p → Bounds (suc n) (emit i pc w p)
+emit_ok : (i : Instruction) (n z pc w : ℕ) (p : Walked) → pc < 2 ^ 64 → w < 2 ^ 32 → Bounds n p → Bounds (suc n) (emit i z pc w p)
 unfolding emit EndOk
-emit_ok (op o) n pc w p h l s = record { end_ok = s.end_ok; few = omega (arith, s.few) }
-emit_ok (op_imm o) n pc w p h l s = record { end_ok = s.end_ok; few = omega (arith, s.few) }
-emit_ok LUI n pc w p h l s = record { end_ok = s.end_ok; few = omega (arith, s.few) }
-emit_ok AUIPC n pc w p h l s = record { end_ok = s.end_ok; few = omega (arith, s.few) }
-emit_ok FENCE n pc w p h l s = record { end_ok = s.end_ok; few = omega (arith, s.few) }
-emit_ok FENCE_I n pc w p h l s = omega arith
-emit_ok (branch c) n pc w p h l s = omega arith
-emit_ok JAL n pc w p h l s = omega arith
-emit_ok JALR n pc w p h l s = omega arith
-emit_ok (access a) n pc w p h l s = omega arith
-emit_ok (unmodelled o) n pc w p h l s = omega arith
-emit_ok other n pc w p h l s = omega arith
+emit_ok (op o) n z pc w p h l s = record { end_ok = s.end_ok; few = omega (arith, s.few) }
+emit_ok (op_imm o) n z pc w p h l s = record { end_ok = s.end_ok; few = omega (arith, s.few) }
+emit_ok LUI n z pc w p h l s = record { end_ok = s.end_ok; few = omega (arith, s.few) }
+emit_ok AUIPC n z pc w p h l s = record { end_ok = s.end_ok; few = omega (arith, s.few) }
+emit_ok FENCE n z pc w p h l s = record { end_ok = s.end_ok; few = omega (arith, s.few) }
+emit_ok FENCE_I n z pc w p h l s = omega arith
+emit_ok (branch c) n z pc w p h l s = omega arith
+emit_ok JAL n z pc w p h l s = omega arith
+emit_ok JALR n z pc w p h l s = omega arith
+emit_ok (access a) n z pc w p h l s = omega arith
+emit_ok (unmodelled o) n z pc w p h l s = omega arith
+emit_ok other n z pc w p h l s = omega arith
 
-pub walk_ok : (n pc : ℕ) (hs : List ℕ) → pc < 2 ^ 64 → Halfwords hs → Bounds n (walk n pc hs)
-unfolding walk Halfwords EndOk
-walk_ok zero pc hs h l = omega arith
-walk_ok (suc n) pc [] h l = omega arith
-walk_ok (suc n) pc (x ∷ []) h l = go (eqb (bit_and x 0x3) 0x3)
-  where
-    go : (t : Bool) → Bounds (suc n) (elim t [ true ↦ stops_at pc | false ↦ helps for_halfword x pc ])
-    go true = omega arith
-    go false = omega arith
-walk_ok (suc n) pc (x ∷ y ∷ hs) h l = go (eqb (bit_and x 0x3) 0x3) (walk_ok n (plus pc 4) hs (omega arith) l.1.1)
+long_ok : (n pc x : ℕ) (hs : List ℕ) (p : Walked) → pc < 2 ^ 64 → Halfwords (x ∷ hs) → Bounds n p → Bounds (suc n) (emit_word pc x hs p)
+unfolding Halfwords EndOk
+long_ok n pc x [] p h l s = omega arith
+long_ok n pc x (y ∷ hs) p h l s = emit_ok (kind w) n 4 pc w p h w_lt s
   where
     w : ℕ
     w = Decode32.word_of x y
@@ -146,7 +142,25 @@ walk_ok (suc n) pc (x ∷ y ∷ hs) h l = go (eqb (bit_and x 0x3) 0x3) (walk_ok 
     w_lt : w < 2 ^ 32
     w_lt = rw (word_of_is x y l.0) (omega (arith, l.0, l.1.0))
 
-    go : (t : Bool) → Bounds n (walk n (plus pc 4) hs)
-        → Bounds (suc n) (elim t [ true ↦ emit (kind w) pc w (walk n (plus pc 4) hs) | false ↦ helps for_halfword x pc ])
-    go true s = emit_ok (kind w) n pc w (walk n (plus pc 4) hs) h w_lt s
-    go false s = omega (arith, l.0)
+short_ok : (n pc x : ℕ) (p : Walked) → pc < 2 ^ 64 → x < 2 ^ 16 → Bounds n p → Bounds (suc n) (emit_halfword (expand x) pc x p)
+short_ok n pc x p h l s = rw (expand_is x) (go (in_line x) refl)
+  where
+    go : (o : Option ℕ) → in_line x ≡ o → Bounds (suc n) (emit_halfword o pc x p)
+    go none e = unfold EndOk in omega (arith, l)
+    go (some w) e = emit_ok (kind w) n 2 pc w p h (in_line_lt x w e) s
+
+pub walk_ok : (n pc : ℕ) (hs : List ℕ) → pc < 2 ^ 64 → Halfwords hs → Bounds n (walk n pc hs)
+unfolding walk EndOk
+walk_ok zero pc hs h l = omega arith
+walk_ok (suc n) pc [] h l = omega arith
+walk_ok (suc n) pc (x ∷ hs) h l =
+    go (eqb (bit_and x 0x3) 0x3) (walk_ok n (plus pc 4) (drop 1 hs) (omega arith) (halfwords_drop x hs l))
+    (walk_ok n (plus pc 2) hs (omega arith) (halfwords_tail x hs l))
+  where
+    go : (t : Bool) → Bounds n (walk n (plus pc 4) (drop 1 hs)) → Bounds n (walk n (plus pc 2) hs)
+        → Bounds (suc n) (elim t [
+          | true ↦ emit_word pc x hs (walk n (plus pc 4) (drop 1 hs))
+          | false ↦ emit_halfword (expand x) pc x (walk n (plus pc 2) hs)
+        ])
+    go true p q = long_ok n pc x hs _ h l p
+    go false p q = short_ok n pc x _ h (halfwords_front x hs l) q

@@ -1,15 +1,16 @@
 -- The walk's code against the manual's reading: one lemma per instruction, then the run of halfwords.
-use Rattle.std.proofs.Common.{Bool, false, true, List, [], ◌∷◌, ◌≡◌, ap, refl, subst, sym, ◌+◌, ◌<◌, ◌^◌, ◌≤◌, suc, zero, ℕ, arith, length}
+use Rattle.std.proofs.Common.{Bool, false, true, List, [], ◌∷◌, ◌≡◌, ap, refl, subst, sym, ◌+◌, ◌<◌, ◌^◌, ◌≤◌, suc, zero, ℕ, arith, length, drop}
+use Rattle.std.proofs.Math.Option.{Option, none, some}
 use Rattle.agreement.specs.Common.{Helper, Helper.for_access, Helper.for_halfword}
 use Rattle.agreement.specs.Riscv.Fields.{opcode, plus, rd, rs1, rs2, shamt5, shamt6}
 use Rattle.agreement.specs.Riscv.Instruction.{Branch, Instruction, Op, OpImm, value_op, value_op_imm}
-use Rattle.agreement.specs.Riscv.Instruction.Instruction.{AUIPC, FENCE, FENCE_I, JAL, JALR, LUI, access, branch, op, op_imm, other}
-use Rattle.agreement.specs.Riscv.Instruction.Instruction.{unmodelled}
-use Rattle.agreement.specs.Riscv.Run.{Read, Registers, Stop, does, halt, help, is_long, jump, one_more, reading, taken, word_of, write_x}
+use Rattle.agreement.specs.Riscv.Instruction.Instruction.{AUIPC, FENCE, FENCE_I, JAL, JALR, LUI, access, branch, op, op_imm, other, unmodelled}
+use Rattle.agreement.specs.Riscv.Run.{Read, Registers, Stop, does, halt, help, in_line, is_long, jump, one_more, reading, taken, word_of, write_x}
+use Rattle.agreement.specs.Riscv.Run.{does_halfword, does_word}
 use Rattle.agreement.specs.Riscv.Run.Stop.{called, plain}
+use Rattle.agreement.specs.Translation.Decode16.{expand}
 use Rattle.agreement.specs.Translation.Emit.{code_branch, code_const, code_jal, code_jalr, code_op, code_op_imm, compare, leftover, load_reg}
-use Rattle.agreement.specs.Translation.Kind.{kind}
-use Rattle.agreement.specs.Translation.Walk.{End, Walked, before, emit, helps, jumps, not_taken_at, stops_at, stops_behind, walk}
+use Rattle.agreement.specs.Translation.Walk.{End, Walked, before, emit, helps, jumps, not_taken_at, stops_at, stops_behind, walk, emit_word, emit_halfword}
 use Rattle.agreement.specs.Translation.Walk.End.{calls, goes_on, jumped}
 use Rattle.agreement.specs.Laws.{Halfwords}
 use Rattle.agreement.specs.X86.Execute.{exec}
@@ -18,10 +19,12 @@ use Rattle.agreement.specs.X86.State.{Flags, State}
 use Rattle.agreement.specs.X86.Step.{past}
 use Rattle.agreement.proofs.Host.Fetching.{one}
 use Rattle.agreement.proofs.Host.Straight.{run}
+use Rattle.agreement.proofs.Laws.Expanding.{expand_is, in_line_lt}
 use Rattle.agreement.proofs.Laws.Fields.{long_is, opcode_is, rd_is, rs1_is, rs2_is, shamt5_is, shamt6_is, word_of_is}
 use Rattle.agreement.proofs.Laws.Immediates.{imm32_is, imm32-lt, imm_b_is, imm_i-lt, imm_j_is, imm_u_is, imm_u-lt}
 use Rattle.agreement.proofs.Laws.Leftover.{leftover_by}
 use Rattle.agreement.proofs.Laws.Naming.{kind_is}
+use Rattle.agreement.proofs.Laws.Runs.{halfwords_drop, halfwords_tail}
 use Rattle.agreement.proofs.Words.Fit.{Fit, fit_branch, fit_compare, fit_const, fit_imm, fit_jal, fit_jalr, fit_load, fit_loads}
 use Rattle.agreement.proofs.Words.Fit.{fit_nil, Leads, leads_append, leads_straight}
 use Rattle.agreement.proofs.Words.Jumps.{Jumped, branch_jumps, const_slots, jal_jumps, jalr_jumps}
@@ -86,7 +89,7 @@ module _ (undefined : State → Flags) (b : ℕ) (fits : b + 256 ≤ 2 ^ 64) whe
   not_taken pc w x s h = rw (opcode_is w, rs1_is w, rs2_is w) (by (left_over (opcode w) (rs1 w) (rs2 w) (omega arith) (omega arith) x s h))
     where
       by : Idle x s (leftover (opcode w) (rs1 w) (rs2 w))
-          → Agree (record { code = leftover (opcode w) (rs1 w) (rs2 w); added = 0; end = goes_on pc }) (halt x pc) s
+          → Agree (record { code = leftover (opcode w) (rs1 w) (rs2 w); added = 0; span = 0; end = goes_on pc }) (halt x pc) s
       by q = unfold Idle Next in record {
         n = _;
         t = run undefined (leftover (opcode w) (rs1 w) (rs2 w)) s;
@@ -96,10 +99,10 @@ module _ (undefined : State → Flags) (b : ℕ) (fits : b + 256 ≤ 2 ^ 64) whe
         next = (refl, refl);
       }
 
-  jumping : (is : List Instr) (x : Registers) (pc : ℕ) (s : State) → Fit is
-      → Jumped b x pc (run undefined is s) → Agree (jumps is) (jump x pc) s
+  jumping : (z : ℕ) (is : List Instr) (x : Registers) (pc : ℕ) (s : State) → Fit is
+      → Jumped b x pc (run undefined is s) → Agree (jumps z is) (jump x pc) s
   unfolding Next
-  jumping is x pc s f j = record {
+  jumping z is x pc s f j = record {
     n = length is;
     t = run undefined is s;
     leads = leads_straight undefined is s f;
@@ -108,10 +111,10 @@ module _ (undefined : State → Flags) (b : ℕ) (fits : b + 256 ≤ 2 ^ 64) whe
     next = (j.rax, refl);
   }
 
-  stopping : (is : List Instr) (x : Registers) (pc : ℕ) (s : State) → Fit is
-      → Slots b x (run undefined is s) → Agree (stops_behind is pc) (jump x pc) s
+  stopping : (z : ℕ) (is : List Instr) (x : Registers) (pc : ℕ) (s : State) → Fit is
+      → Slots b x (run undefined is s) → Agree (stops_behind z is pc) (jump x pc) s
   unfolding Next
-  stopping is x pc s f h = record {
+  stopping z is x pc s f h = record {
     n = length is;
     t = run undefined is s;
     leads = leads_straight undefined is s f;
@@ -121,9 +124,9 @@ module _ (undefined : State → Flags) (b : ℕ) (fits : b + 256 ≤ 2 ^ 64) whe
   }
 
   -- a straight word before a walk
-  along : (is : List Instr) (p : Walked) (r : Read) (s t : State) (n : ℕ) → Leads undefined is s n t → Agree p r t
-      → Agree (before is p) (one_more r) s
-  along is p r s t n l a = record {
+  along : (z : ℕ) (is : List Instr) (p : Walked) (r : Read) (s t : State) (n : ℕ) → Leads undefined is s n t → Agree p r t
+      → Agree (before z is p) (one_more r) s
+  along z is p r s t n l a = record {
     n = n + a.n;
     t = a.t;
     leads = leads_append undefined is p.code s t a.t n a.n l a.leads;
@@ -132,27 +135,28 @@ module _ (undefined : State → Flags) (b : ℕ) (fits : b + 256 ≤ 2 ^ 64) whe
     next = a.next;
   }
 
-  then : (is : List Instr) (p : Walked) (r : Read) (s : State) → Fit is → Agree p r (run undefined is s) → Agree (before is p) (one_more r) s
-  then is p r s f a = along is p r s (run undefined is s) (length is) (leads_straight undefined is s f) a
+  then : (z : ℕ) (is : List Instr) (p : Walked) (r : Read) (s : State) → Fit is → Agree p r (run undefined is s)
+      → Agree (before z is p) (one_more r) s
+  then z is p r s f a = along z is p r s (run undefined is s) (length is) (leads_straight undefined is s f) a
 
   -- what is shown of an instruction; the last premise goes on with what follows it
   abbrev WordAgrees : Instruction → Type 0
   WordAgrees i =
-      (pc w : ℕ) (p : Walked) (x : Registers) (k : Registers → Read) (s : State) → w < 2 ^ 32 → Slots b x s
-      → ((x : Registers) (s : State) → Slots b x s → Agree p (k x) s) → Agree (emit i pc w p) (does i pc w x k) s
+      (z pc w : ℕ) (p : Walked) (x : Registers) (k : Registers → Read) (s : State) → w < 2 ^ 32 → Slots b x s
+      → ((x : Registers) (s : State) → Slots b x s → Agree p (k x) s) → Agree (emit i z pc w p) (does i z pc w x k) s
 
   -- one lemma per instruction or family; where the proof is one line it stands in `agree_word`
   agree_op : (o : Op) → WordAgrees (op o)
   unfolding emit does
-  agree_op o pc w p x k s lw h f = rw (rd_is w, rs1_is w, rs2_is w)
+  agree_op o z pc w p x k s lw h f = rw (rd_is w, rs1_is w, rs2_is w)
       (let d = op_done undefined b fits o x s (rd w) (rs1 w) (rs2 w) h (omega arith) (omega arith) (omega arith) in
-      along (code_op o (rd w) (rs1 w) (rs2 w)) p (k (write_x x (rd w) (value_op o (x (rs1 w)) (x (rs2 w))))) s d.t d.n
+      along z (code_op o (rd w) (rs1 w) (rs2 w)) p (k (write_x x (rd w) (value_op o (x (rs1 w)) (x (rs2 w))))) s d.t d.n
       d.leads (f _ _ d.slots))
 
   agree_op_imm : (o : OpImm) → WordAgrees (op_imm o)
   unfolding emit does
-  agree_op_imm o pc w p x k s lw h f = rw (rd_is w, rs1_is w, shamt6_is w, shamt5_is w)
-      (then (code_op_imm o (rd w) (rs1 w) (Decode32.imm32 w) (shamt6 w) (shamt5 w)) p
+  agree_op_imm o z pc w p x k s lw h f = rw (rd_is w, rs1_is w, shamt6_is w, shamt5_is w)
+      (then z (code_op_imm o (rd w) (rs1 w) (Decode32.imm32 w) (shamt6 w) (shamt5 w)) p
       (k (write_x x (rd w) (value_op_imm o (x (rs1 w)) (Manual.imm_i w) (shamt6 w) (shamt5 w)))) s
       (fit_imm o (rd w) (rs1 w) (Decode32.imm32 w) (shamt6 w) (shamt5 w)
       (omega arith) (omega arith) (imm32-lt w) (omega arith) (omega arith))
@@ -161,40 +165,40 @@ module _ (undefined : State → Flags) (b : ℕ) (fits : b + 256 ≤ 2 ^ 64) whe
 
   agree_lui : WordAgrees LUI
   unfolding emit does
-  agree_lui pc w p x k s lw h f = rw (imm_u_is w, rd_is w)
-      (then (code_const (rd w) (Manual.imm_u w)) p (k (write_x x (rd w) (Manual.imm_u w))) s
+  agree_lui z pc w p x k s lw h f = rw (imm_u_is w, rd_is w)
+      (then z (code_const (rd w) (Manual.imm_u w)) p (k (write_x x (rd w) (Manual.imm_u w))) s
       (fit_const (rd w) (Manual.imm_u w) (omega arith) (imm_u-lt w))
       (f _ _ (const_slots undefined b fits x s (rd w) (Manual.imm_u w) h (omega arith) (imm_u-lt w))))
 
   agree_auipc : WordAgrees AUIPC
   unfolding emit does
-  agree_auipc pc w p x k s lw h f = rw (imm_u_is w, rd_is w)
-      (then (code_const (rd w) (plus pc (Manual.imm_u w))) p (k (write_x x (rd w) (plus pc (Manual.imm_u w)))) s
+  agree_auipc z pc w p x k s lw h f = rw (imm_u_is w, rd_is w)
+      (then z (code_const (rd w) (plus pc (Manual.imm_u w))) p (k (write_x x (rd w) (plus pc (Manual.imm_u w)))) s
       (fit_const (rd w) (plus pc (Manual.imm_u w)) (omega arith) (plus-lt pc (Manual.imm_u w)))
       (f _ _ (const_slots undefined b fits x s (rd w) (plus pc (Manual.imm_u w)) h (omega arith) (plus-lt pc (Manual.imm_u w)))))
 
   agree_branch : (c : Branch) → WordAgrees (branch c)
   unfolding emit does
-  agree_branch c pc w p x k s lw h f = rw (imm_b_is w, rs1_is w, rs2_is w)
-      (jumping (code_branch c (rs1 w) (rs2 w) (plus pc 4) (plus pc (Manual.imm_b w))) x _ s
-      (fit_branch c (rs1 w) (rs2 w) (plus pc 4) (plus pc (Manual.imm_b w))
-      (omega arith) (omega arith) (plus-lt pc 4) (plus-lt pc (Manual.imm_b w)))
-      (branch_jumps undefined b fits c x s (rs1 w) (rs2 w) (plus pc 4) (plus pc (Manual.imm_b w)) h (omega arith) (omega arith)))
+  agree_branch c z pc w p x k s lw h f = rw (imm_b_is w, rs1_is w, rs2_is w)
+      (jumping z (code_branch c (rs1 w) (rs2 w) (plus pc z) (plus pc (Manual.imm_b w))) x _ s
+      (fit_branch c (rs1 w) (rs2 w) (plus pc z) (plus pc (Manual.imm_b w))
+      (omega arith) (omega arith) (plus-lt pc z) (plus-lt pc (Manual.imm_b w)))
+      (branch_jumps undefined b fits c x s (rs1 w) (rs2 w) (plus pc z) (plus pc (Manual.imm_b w)) h (omega arith) (omega arith)))
 
   agree_jal : WordAgrees JAL
   unfolding emit does
-  agree_jal pc w p x k s lw h f = rw (imm_j_is w, rd_is w)
-      (jumping (code_jal (rd w) (plus pc 4) (plus pc (Manual.imm_j w))) (write_x x (rd w) (plus pc 4)) _ s
-      (fit_jal (rd w) (plus pc 4) (plus pc (Manual.imm_j w)) (omega arith) (plus-lt pc 4) (plus-lt pc (Manual.imm_j w)))
-      (jal_jumps undefined b fits x s (rd w) (plus pc 4) (plus pc (Manual.imm_j w)) h (omega arith) (plus-lt pc 4)))
+  agree_jal z pc w p x k s lw h f = rw (imm_j_is w, rd_is w)
+      (jumping z (code_jal (rd w) (plus pc z) (plus pc (Manual.imm_j w))) (write_x x (rd w) (plus pc z)) _ s
+      (fit_jal (rd w) (plus pc z) (plus pc (Manual.imm_j w)) (omega arith) (plus-lt pc z) (plus-lt pc (Manual.imm_j w)))
+      (jal_jumps undefined b fits x s (rd w) (plus pc z) (plus pc (Manual.imm_j w)) h (omega arith) (plus-lt pc z)))
 
   agree_jalr : WordAgrees JALR
   unfolding emit does
-  agree_jalr pc w p x k s lw h f = rw (rd_is w, rs1_is w)
-      (jumping (code_jalr (rd w) (rs1 w) (Decode32.imm32 w) (plus pc 4)) (write_x x (rd w) (plus pc 4)) _ s
-      (fit_jalr (rd w) (rs1 w) (Decode32.imm32 w) (plus pc 4) (omega arith) (omega arith) (imm32-lt w) (plus-lt pc 4))
-      (jalr_jumps undefined b fits x s (rd w) (rs1 w) (Decode32.imm32 w) (Manual.imm_i w) (plus pc 4) h
-      (omega arith) (omega arith) (imm32_is w lw) (plus-lt pc 4)))
+  agree_jalr z pc w p x k s lw h f = rw (rd_is w, rs1_is w)
+      (jumping z (code_jalr (rd w) (rs1 w) (Decode32.imm32 w) (plus pc z)) (write_x x (rd w) (plus pc z)) _ s
+      (fit_jalr (rd w) (rs1 w) (Decode32.imm32 w) (plus pc z) (omega arith) (omega arith) (imm32-lt w) (plus-lt pc z))
+      (jalr_jumps undefined b fits x s (rd w) (rs1 w) (Decode32.imm32 w) (Manual.imm_i w) (plus pc z) h
+      (omega arith) (omega arith) (imm32_is w lw) (plus-lt pc z)))
 
   agree_word : (i : Instruction) → WordAgrees i
   unfolding emit does
@@ -202,53 +206,64 @@ module _ (undefined : State → Flags) (b : ℕ) (fits : b + 256 ≤ 2 ^ 64) whe
   agree_word (op_imm o) = agree_op_imm o
   agree_word LUI = agree_lui
   agree_word AUIPC = agree_auipc
-  agree_word FENCE = λ pc w p x k s lw h f. then [] p (k x) s fit_nil (unfold run in f x s h)
-  agree_word FENCE_I = λ pc w p x k s lw h f. stopping _ x _ s fit_nil (unfold run in h)
+  agree_word FENCE = λ z pc w p x k s lw h f. then z [] p (k x) s fit_nil (unfold run in f x s h)
+  agree_word FENCE_I = λ z pc w p x k s lw h f. stopping z _ x _ s fit_nil (unfold run in h)
   agree_word (branch c) = agree_branch c
   agree_word JAL = agree_jal
   agree_word JALR = agree_jalr
-  agree_word (access a) = λ pc w p x k s lw h f. calling for_access w pc x s h
-  agree_word (unmodelled o) = λ pc w p x k s lw h f. not_taken pc w x s h
-  agree_word other = λ pc w p x k s lw h f. not_taken pc w x s h
+  agree_word (access a) = λ z pc w p x k s lw h f. calling for_access w pc x s h
+  agree_word (unmodelled o) = λ z pc w p x k s lw h f. not_taken pc w x s h
+  agree_word other = λ z pc w p x k s lw h f. not_taken pc w x s h
 
-  pub agree : (n pc : ℕ) (hs : List ℕ) (x : Registers) (s : State) → Halfwords hs → Slots b x s → Agree (walk n pc hs) (reading n pc hs x) s
-  unfolding walk reading Halfwords
-  agree zero pc hs x s l h = stopped pc x s h
-  agree (suc n) pc [] x s l h = stopped pc x s h
-  agree (suc n) pc (g ∷ []) x s l h = subst A (sym (long_is g)) (by (is_long g))
+  -- a word of the run, if its upper halfword is there
+  agree_long : (pc g : ℕ) (hs : List ℕ) (p : Walked) (x : Registers) (k : Registers → Read) (s : State) → Halfwords (g ∷ hs) → Slots b x s
+      → ((x : Registers) (s : State) → Slots b x s → Agree p (k x) s) → Agree (emit_word pc g hs p) (does_word pc g hs x k) s
+  unfolding Halfwords
+  agree_long pc g [] p x k s l h f = stopped pc x s h
+  agree_long pc g (u ∷ hs) p x k s l h f =
+      rw (word_of_is g u l.0, kind_is (word_of g u)) (agree_word (taken (word_of g u)) 4 pc (word_of g u) p x k s (w_lt l.0 l.1.0) h f)
     where
-      q : Bool → Read
-      q t = elim t [ true ↦ halt x pc | false ↦ help x pc for_halfword g ]
-
-      A : Bool → Type 0
-      A t = Agree (elim t [ true ↦ stops_at pc | false ↦ helps for_halfword g pc ]) (q (is_long g)) s
-
-      by : (t : Bool) → Agree (elim t [ true ↦ stops_at pc | false ↦ helps for_halfword g pc ]) (q t) s
-      by true = stopped pc x s h
-      by false = calling for_halfword g pc x s h
-  agree (suc n) pc (g ∷ u ∷ hs) x s l h =
-      subst A (sym (long_is g))
-      (subst (B (is_long g)) (sym (word_of_is g u l.0)) (by (is_long g) (λ x s. agree n (plus pc 4) hs x s l.1.1)))
-    where
-      w : ℕ
-      w = word_of g u
-
       w_lt : g < 65536 → u < 65536 → word_of g u < 2 ^ 32
       w_lt p q = omega arith
 
-      p : Bool → ℕ → Walked
-      p t v = elim t [ true ↦ emit (kind v) pc v (walk n (plus pc 4) hs) | false ↦ helps for_halfword g pc ]
+  -- a halfword: the word that it is translated and read as, or the helper
+  agree_short : (pc g : ℕ) (p : Walked) (x : Registers) (k : Registers → Read) (s : State) → Slots b x s
+      → ((x : Registers) (s : State) → Slots b x s → Agree p (k x) s)
+      → Agree (emit_halfword (expand g) pc g p) (does_halfword (in_line g) pc g x k) s
+  agree_short pc g p x k s h f = rw (expand_is g) (by (in_line g) refl)
+    where
+      by : (o : Option ℕ) → in_line g ≡ o → Agree (emit_halfword o pc g p) (does_halfword o pc g x k) s
+      by none e = calling for_halfword g pc x s h
+      by (some w) e =
+          rw (kind_is w) (agree_word (taken w) 2 pc w p x k s (in_line_lt g w e) h f)
+
+  pub agree : (n pc : ℕ) (hs : List ℕ) (x : Registers) (s : State) → Halfwords hs → Slots b x s → Agree (walk n pc hs) (reading n pc hs x) s
+  unfolding walk reading
+  agree zero pc hs x s l h = stopped pc x s h
+  agree (suc n) pc [] x s l h = stopped pc x s h
+  agree (suc n) pc (g ∷ hs) x s l h =
+      subst A (sym (long_is g))
+      (by (is_long g) (λ x s. agree n (plus pc 4) (drop 1 hs) x s (halfwords_drop g hs l)) (λ x s. agree n (plus pc 2) hs x s (halfwords_tail g hs l)))
+    where
+      p : Bool → Walked
+      p t = elim t [
+        | true ↦ emit_word pc g hs (walk n (plus pc 4) (drop 1 hs))
+        | false ↦ emit_halfword (expand g) pc g (walk n (plus pc 2) hs)
+      ]
 
       q : Bool → Read
-      q t = elim t [ true ↦ does (taken w) pc w x (reading n (plus pc 4) hs) | false ↦ help x pc for_halfword g ]
+      q t = elim t [
+        | true ↦ does_word pc g hs x (reading n (plus pc 4) (drop 1 hs))
+        | false ↦ does_halfword (in_line g) pc g x (reading n (plus pc 2) hs)
+      ]
 
       A : Bool → Type 0
-      A t = Agree (p t (Decode32.word_of g u)) (q (is_long g)) s
+      A t = Agree (p t) (q (is_long g)) s
 
-      B : Bool → ℕ → Type 0
-      B t v = Agree (p t v) (q t) s
+      Follows : ℕ → List ℕ → Type 0
+      Follows z hs =
+          (x : Registers) (s : State) → Slots b x s → Agree (walk n (plus pc z) hs) (reading n (plus pc z) hs x) s
 
-      by : (t : Bool) → ((x : Registers) (s : State) → Slots b x s → Agree (walk n (plus pc 4) hs) (reading n (plus pc 4) hs x) s) → B t w
-      by true f =
-          rw (kind_is w) (agree_word (taken w) pc w (walk n (plus pc 4) hs) x (reading n (plus pc 4) hs) s (w_lt l.0 l.1.0) h f)
-      by false f = calling for_halfword g pc x s h
+      by : (t : Bool) → Follows 4 (drop 1 hs) → Follows 2 hs → Agree (p t) (q t) s
+      by true f k = agree_long pc g hs _ x _ s l h f
+      by false f k = agree_short pc g _ x _ s h k

@@ -1,15 +1,15 @@
 -- The manual's run. Document 01, "The manual's run in demand 3", "Words taken" and "Replies"; meanings from the manual.
 -- It uses no definition of the translator or the host: it is fed a turn's code, how far that was fetched, the limit and the output's
 -- length, and what a helper left.
-use Rattle.std.specs.Prelude.{Bool, true, false, cond, ◌||◌, List, [], ◌∷◌, ℕ, zero, suc, ◌+◌, ◌*◌, ◌/◌, ◌%◌, min, ltb, eqb}
+use Rattle.std.specs.Prelude.{Bool, true, false, cond, ◌||◌, List, [], ◌∷◌, ℕ, zero, suc, ◌+◌, ◌*◌, ◌/◌, ◌%◌, min, drop, ltb, eqb}
 use Rattle.std.proofs.Math.Option.{Option, none, some}
-use Rattle.agreement.specs.Common.{greatest, most_steps, Helper, Helper.for_halfword, Helper.for_access}
+use Rattle.agreement.specs.Common.{greatest, most_steps, Length.long, Length.short, size, Helper, Helper.for_halfword, Helper.for_access}
 use Rattle.agreement.specs.Riscv.Code.{Code, run_at}
 use Rattle.agreement.specs.Riscv.Fields.{rd, rs1, rs2, shamt6, shamt5, plus}
 use Rattle.agreement.specs.Riscv.Immediates.{imm_i, imm_b, imm_j, imm_u}
+use Rattle.agreement.specs.Riscv.Compressed.{expansion}
 use Rattle.agreement.specs.Riscv.Instruction.{Instruction, named, value_op, value_op_imm, branches}
-use Rattle.agreement.specs.Riscv.Instruction.Instruction.{op, op_imm, branch, access, unmodelled, LUI, AUIPC, JAL, JALR, FENCE}
-use Rattle.agreement.specs.Riscv.Instruction.Instruction.{FENCE_I, other}
+use Rattle.agreement.specs.Riscv.Instruction.Instruction.{op, op_imm, branch, access, unmodelled, LUI, AUIPC, JAL, JALR, FENCE, FENCE_I, other}
 
 -- x0 to x31 by number
 abbrev pub Registers : Type 0
@@ -35,6 +35,29 @@ chosen other = false
 -- which instruction a turn takes a word for; `other`: it is not taken
 unfoldable pub taken : ℕ → Instruction
 taken w = cond (chosen (named w)) (named w) other
+
+-- document 02, Q-7: a halfword is read in line where its expansion is taken as a straight or ending word
+abbrev pub is_in_line : Instruction → Bool
+is_in_line (op o) = true
+is_in_line (op_imm o) = true
+is_in_line (branch c) = true
+is_in_line LUI = true
+is_in_line AUIPC = true
+is_in_line JAL = true
+is_in_line JALR = true
+is_in_line FENCE = true
+is_in_line FENCE_I = true
+is_in_line (access a) = false
+is_in_line (unmodelled u) = false
+is_in_line other = false
+
+unfoldable pub if_in_line : Option ℕ → Option ℕ
+if_in_line none = none
+if_in_line (some w) = cond (is_in_line (taken w)) (some w) none
+
+-- the word that a halfword is read as; `none`: it is a helper ending
+unfoldable pub in_line : ℕ → Option ℕ
+in_line h = if_in_line (expansion h)
 
 -- an instruction of 16 bits has low two bits that are not 3 ("Base Instruction-Length Encoding"); all others are read as
 -- words of 32 bits
@@ -75,34 +98,43 @@ jump x pc = record { registers = x; pc = pc; added = 1; stop = plain }
 unfoldable pub write_x : Registers → ℕ → ℕ → Registers
 write_x x d v r = cond (eqb d 0) (x r) (cond (eqb r d) v (x r))
 
--- the word w at pc, its instruction known; `rest` reads on at pc + 4
-unfoldable pub does : Instruction → ℕ → ℕ → Registers → (Registers → Read) → Read
-does (op o) pc w x rest = one_more (rest (write_x x (rd w) (value_op o (x (rs1 w)) (x (rs2 w)))))
-does (op_imm o) pc w x rest =
+-- the word w at pc, its instruction known, which has z bytes there; `rest` reads on at pc + z
+unfoldable pub does : Instruction → ℕ → ℕ → ℕ → Registers → (Registers → Read) → Read
+does (op o) z pc w x rest = one_more (rest (write_x x (rd w) (value_op o (x (rs1 w)) (x (rs2 w)))))
+does (op_imm o) z pc w x rest =
     one_more (rest (write_x x (rd w) (value_op_imm o (x (rs1 w)) (imm_i w) (shamt6 w) (shamt5 w))))
-does LUI pc w x rest = one_more (rest (write_x x (rd w) (imm_u w)))
-does AUIPC pc w x rest = one_more (rest (write_x x (rd w) (plus pc (imm_u w))))
+does LUI z pc w x rest = one_more (rest (write_x x (rd w) (imm_u w)))
+does AUIPC z pc w x rest = one_more (rest (write_x x (rd w) (plus pc (imm_u w))))
 -- document 01: a fence counts and does nothing
-does FENCE pc w x rest = one_more (rest x)
+does FENCE z pc w x rest = one_more (rest x)
 -- "a subsequent instruction fetch on a RISC-V hart will see any previous data stores already visible to the same RISC-V hart" (Zifencei).
 -- So the turn ends here (document 02, Q-1): the words behind it are the next turn's, read from the code as it is then
-does FENCE_I pc w x rest = jump x (plus pc 4)
-does (branch c) pc w x rest = jump x (cond (branches c (x (rs1 w)) (x (rs2 w))) (plus pc (imm_b w)) (plus pc 4))
-does JAL pc w x rest = jump (write_x x (rd w) (plus pc 4)) (plus pc (imm_j w))
+does FENCE_I z pc w x rest = jump x (plus pc z)
+does (branch c) z pc w x rest = jump x (cond (branches c (x (rs1 w)) (x (rs2 w))) (plus pc (imm_b w)) (plus pc z))
+does JAL z pc w x rest = jump (write_x x (rd w) (plus pc z)) (plus pc (imm_j w))
 -- "then setting the least-significant bit of the result to zero"
-does JALR pc w x rest = jump (write_x x (rd w) (plus pc 4)) (plus (x (rs1 w)) (imm_i w) / 2 * 2)
-does (access a) pc w x rest = help x pc for_access w
-does (unmodelled u) pc w x rest = halt x pc
-does other pc w x rest = halt x pc
+does JALR z pc w x rest = jump (write_x x (rd w) (plus pc z)) (plus (x (rs1 w)) (imm_i w) / 2 * 2)
+does (access a) z pc w x rest = help x pc for_access w
+does (unmodelled u) z pc w x rest = halt x pc
+does other z pc w x rest = halt x pc
+
+-- the word at pc whose lower halfword is h; hs: the halfwords behind that one
+abbrev pub does_word : ℕ → ℕ → List ℕ → Registers → (Registers → Read) → Read
+does_word pc h [] x rest = halt x pc
+does_word pc h (u ∷ hs) x rest = does (taken (word_of h u)) (size long) pc (word_of h u) x rest
+
+-- the halfword h at pc: what the word does that it is read as, or a helper ending
+abbrev pub does_halfword : Option ℕ → ℕ → ℕ → Registers → (Registers → Read) → Read
+does_halfword none pc h x rest = help x pc for_halfword h
+does_halfword (some w) pc h x rest = does (taken w) (size short) pc w x rest
 
 -- at most n instructions, read from the run of halfwords that stands at pc
 unfoldable pub reading : ℕ → ℕ → List ℕ → Registers → Read
 reading zero pc hs x = halt x pc
 reading (suc n) pc [] x = halt x pc
-reading (suc n) pc (h ∷ []) x = elim (is_long h) [ true ↦ halt x pc | false ↦ help x pc for_halfword h ]
-reading (suc n) pc (h ∷ u ∷ hs) x = elim (is_long h) [
-  | true ↦ does (taken (word_of h u)) pc (word_of h u) x (reading n (plus pc 4) hs)
-  | false ↦ help x pc for_halfword h
+reading (suc n) pc (h ∷ hs) x = elim (is_long h) [
+  | true ↦ does_word pc h hs x (reading n (plus pc (size long)) (drop 1 hs))
+  | false ↦ does_halfword (in_line h) pc h x (reading n (plus pc (size short)) hs)
 ]
 
 -- 3. Turns refused by the table of replies: 1 limit 0, 2 odd pc, 3 and 4 the first word, 5 the output's length

@@ -1,12 +1,12 @@
 -- How many steps an entry takes. Jumps stand only in the words that divide, and go forward: each instruction of a block is
 -- executed at most once, and exactly once where the turn meets no such word (document 02, Q-2 and Q-12).
-use Rattle.std.specs.Prelude.{◌≡◌, Bool, true, false, cond, List, [], ◌∷◌, ℕ, zero, suc, ◌≤◌, length}
+use Rattle.std.specs.Prelude.{◌≡◌, Bool, true, false, cond, List, [], ◌∷◌, ℕ, zero, suc, ◌≤◌, length, drop}
+use Rattle.std.proofs.Math.Option.{Option, none, some}
 use Rattle.agreement.specs.Riscv.Instruction.{Op, Instruction}
 use Rattle.agreement.specs.Riscv.Instruction.Op.{ADD, SUB, SLT, SLTU, XOR, OR, AND, SLL, SRL, SRA, MUL, ADDW, SUBW, SLLW, SRLW, SRAW}
 use Rattle.agreement.specs.Riscv.Instruction.Op.{MULW, MULH, MULHSU, MULHU, DIV, DIVU, REM, REMU, DIVW, DIVUW, REMW, REMUW}
-use Rattle.agreement.specs.Riscv.Instruction.Instruction.{op, op_imm, branch, access, unmodelled, LUI, AUIPC, JAL, JALR, FENCE}
-use Rattle.agreement.specs.Riscv.Instruction.Instruction.{FENCE_I, other}
-use Rattle.agreement.specs.Riscv.Run.{taken, is_long, word_of}
+use Rattle.agreement.specs.Riscv.Instruction.Instruction.{op, op_imm, branch, access, unmodelled, LUI, AUIPC, JAL, JALR, FENCE, FENCE_I, other}
+use Rattle.agreement.specs.Riscv.Run.{in_line, is_long, taken, word_of}
 use Rattle.agreement.specs.X86.Form.{Instr}
 
 unfoldable pub divides : Op → Bool
@@ -54,12 +54,23 @@ unless_dividing (access a) rest = true
 unless_dividing (unmodelled u) rest = true
 unless_dividing other rest = true
 
--- no word that divides among those that a turn reads, at most n, from a run of halfwords (`reading`, Riscv/Run)
+-- the word whose lower halfword is h, and a halfword read as a word: `does_word` and `does_halfword`, Riscv/Run
+abbrev pub undivided_word : ℕ → List ℕ → Bool → Bool
+undivided_word h [] rest = true
+undivided_word h (u ∷ hs) rest = unless_dividing (taken (word_of h u)) rest
+
+abbrev pub undivided_halfword : Option ℕ → Bool → Bool
+undivided_halfword none rest = true
+undivided_halfword (some w) rest = unless_dividing (taken w) rest
+
+-- no word that divides among those that a turn reads, at most n, from a run of halfwords (`reading`)
 unfoldable pub undivided : ℕ → List ℕ → Bool
 undivided zero hs = true
 undivided (suc n) [] = true
-undivided (suc n) (h ∷ []) = true
-undivided (suc n) (h ∷ u ∷ hs) = elim (is_long h) [ true ↦ unless_dividing (taken (word_of h u)) (undivided n hs) | false ↦ true ]
+undivided (suc n) (h ∷ hs) = elim (is_long h) [
+  | true ↦ undivided_word h hs (undivided n (drop 1 hs))
+  | false ↦ undivided_halfword (in_line h) (undivided n hs)
+]
 
 -- n steps through the instructions of a block, u saying that no word of it divides
 pub record StepsOf (is : List Instr) (u : Bool) (n : ℕ) : Type 0 where

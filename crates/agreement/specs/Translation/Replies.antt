@@ -6,11 +6,11 @@ use Rattle.agreement.specs.Riscv.Instruction.{Instruction}
 use Rattle.agreement.specs.X86.Encode.{bytes}
 use Rattle.agreement.specs.Translation.Decode32.{word_of}
 use Rattle.agreement.specs.Translation.Kind.{kind, kind_number}
-use Rattle.agreement.specs.Translation.Walk.{Walked, walk, instrs, counted, spanned}
+use Rattle.agreement.specs.Translation.Walk.{Walked, walk, instrs, counted}
 
--- document 02, Q-6: which rules these are, by the number of its request that last changed what a run is translated to
+-- document 02, Q-7: which rules these are, by the number of its request that last changed what a run is translated to
 abbrev pub rules : ℕ
-rules = 6
+rules = 7
 
 pub record Block : Type 0 where
   pub code : List ℕ
@@ -66,7 +66,7 @@ abbrev pub block_of : ℕ → ℕ → Walked → Block
 block_of helper16 helper_mem p = record {
   code = bytes (instrs helper16 helper_mem p);
   count = counted p.end p.added;
-  span = spanned p.end p.added;
+  span = p.span;
 }
 
 unfoldable pub by_first : First → ℕ → Block → Reply

@@ -15,5 +15,5 @@ pub returns : goal.returns
 returns c =
     let m = c.new-em.ensures in
     let k = compiled c.args.helpers.helper16 c.args.helpers.helper_mem _ m.output m.place c.x64_emit_prologue.ensures c.emit_words-walked.ensures.walks
-    c.close-count.ensures c.span.ensures in
+    c.close-count.ensures in
     search rules
