@@ -12,8 +12,8 @@
 extern "C" {
 #endif
 
-/* The greatest and the least length of a block, the greatest number of guest instructions in it, and the greatest number of bytes of the
- * guest's code that it spans. */
+/* The greatest and the least length of a block, the greatest number of guest instructions in it, whatever their size, and the greatest
+ * number of bytes of the guest's code that it spans. */
 #define EMUKO_GREATEST_BLOCK 4099
 #define EMUKO_LEAST_BLOCK 67
 #define EMUKO_MOST_STEPS 64
@@ -21,6 +21,7 @@ extern "C" {
 
 /* By which rules the archive translates: a number that grows with every change to what a run is translated to.
  *
+ *     7    compressed integer instructions are translated as the words that they expand to; before, helper16 executed every one of them
  *     6    JALR with funct3 1 to 7, which the RISC-V manual reserves, is not taken
  *     -    archives without this function took it as JALR
  *
@@ -45,9 +46,17 @@ enum {
     EMUKO_MEMORY_HELPER = 3 /* a load or store: the memory helper executes it and ends the block */
 };
 
-/* One of the four above. A translation needs no halfword behind one whose low two bits are not 3, and none behind a word that is not
- * EMUKO_STRAIGHT: a caller that fetches one by one may stop there. */
+/* One of the four above. */
 uint32_t emuko_word_kind(uint32_t instr);
+
+/* The word that a compressed halfword is translated as: its expansion by the RISC-V manual's chapter "C", hints included, where that is
+ * EMUKO_STRAIGHT or EMUKO_ENDING. It still has 2 bytes of the guest's code: where its block goes on, and what it links to, is 2 behind its
+ * pc. 0 for all others, which helper16 executes: loads and stores, floating point, C.EBREAK, and what the manual reserves; and for a
+ * halfword whose low two bits are 3, which is the first of a word.
+ *
+ * A translation needs no halfword behind a word that is not EMUKO_STRAIGHT, and none behind a compressed one whose expansion is 0 or not
+ * EMUKO_STRAIGHT: a caller that fetches one by one may stop there. */
+uint32_t emuko_expand(uint16_t halfword);
 
 /* Translates the guest's code from `start` on, at most `limit` instructions of it, into a block at the front of `out`. Behind the block,
  * and everywhere if refused, `out` is as before. The number, and first, second and third value:
@@ -60,8 +69,8 @@ uint32_t emuko_word_kind(uint32_t instr);
  *     5                     the output has fewer than EMUKO_GREATEST_BLOCK bytes, however short this block would be
  *
  * The span is how many bytes of the guest's code the block covers, from `start` on: the sizes of the instructions that it counts, added up, 4
- * for a word, whoever executes it, and 2 for a compressed halfword. A word that is not taken and a halfword that is missing, before which a
- * block ends, are not counted and not spanned. */
+ * for a word and 2 for a compressed halfword, whoever executes them. A word that is not taken and a halfword that is missing, before which
+ * a block ends, are not counted and not spanned. */
 emuko_reply emuko_translate(uint64_t start, uint32_t limit, const uint16_t *halfwords, size_t halfwords_len, uint64_t helper16,
                             uint64_t helper_mem, uint8_t *out, size_t out_len);
 
@@ -153,8 +162,8 @@ typedef struct {
  * those that it touches, or drops all of them behind every FENCE.I, at the latest before the next block is entered, and translates anew. */
 typedef emuko_result (*emuko_block)(uint64_t *regs, void *hart, void *bus_data, void *bus_vtable, void *sbi_data, void *sbi_vtable);
 
-/* A helper executes the guest instruction that stands at pc. Its address, as a number, is helper16 (for a compressed halfword) or
- * helper_mem (for a load or store). */
+/* A helper executes the guest instruction that stands at pc. Its address, as a number, is helper16 (for a compressed halfword for which
+ * emuko_expand has no word) or helper_mem (for a load or store of 32 bits). */
 typedef emuko_result (*emuko_helper)(void *hart, void *bus_data, void *bus_vtable, uint64_t instruction, uint64_t pc);
 
 #ifdef __cplusplus

@@ -29,17 +29,22 @@ static const uint16_t code[] = {0x0093, 0x0050, 0x8133, 0x0010, 0xB183, 0x0000, 
 /* FENCE.I, which ends its block; ADDI x1, x0, 5. */
 static const uint16_t fence_i[] = {0x100F, 0x0000, 0x0093, 0x0050};
 
+/* C.LI a0, 5; C.ADDI a0, 1; ADD x11, x10, x10; C.JALR ra; what stands behind it is not needed. */
+static const uint16_t mixed[] = {0x4515, 0x0505, 0x05B3, 0x00A5, 0x9082, 0x0001};
+
 /* DIV x3, x1, x2; REM x4, x1, x2; DIVW x5, x1, x2; REMUW x6, x1, x2; DIV x0, x1, x0. */
 static const uint16_t divisions[] = {0xC1B3, 0x0220, 0xE233, 0x0220, 0xC2BB, 0x0220, 0xF33B, 0x0220, 0xC033, 0x0200};
 
 /* How many of the halfwords a translation needs. */
 static size_t needed(const uint16_t *halfwords, size_t length, uint32_t limit) {
     size_t k = 0;
-    for (uint32_t step = 0; step < limit && step < EMUKO_MOST_STEPS; step++) {
-        if (k == length) return k;
-        if ((halfwords[k] & 3) != 3 || k + 1 == length) return k + 1;
-        uint32_t word = (uint32_t)halfwords[k + 1] << 16 | halfwords[k];
-        k += 2;
+    for (uint32_t step = 0; step < limit && step < EMUKO_MOST_STEPS && k < length; step++) {
+        uint16_t low = halfwords[k++];
+        uint32_t word = emuko_expand(low);
+        if ((low & 3) == 3) {
+            if (k == length) return k;
+            word = (uint32_t)halfwords[k++] << 16 | low;
+        }
         if (emuko_word_kind(word) != EMUKO_STRAIGHT) return k;
     }
     return k;
@@ -78,6 +83,21 @@ static void kinds(void) {
     CHECK(emuko_word_kind(0x0000B183) == EMUKO_MEMORY_HELPER);
     CHECK(emuko_word_kind(0x00008067) == EMUKO_ENDING);
     for (uint32_t funct3 = 1; funct3 < 8; funct3++) CHECK(emuko_word_kind(0x00008067 | funct3 << 12) == EMUKO_NOT_TAKEN);
+}
+
+/* What compressed halfwords are translated as, and those that a helper executes: a load, C.EBREAK, a reserved one, 0, half a word. */
+static void expansions(void) {
+    CHECK(emuko_expand(0x0001) == 0x00000013);
+    CHECK(emuko_expand(0x0502) == 0x00051513);
+    CHECK(emuko_expand(0x852E) == 0x00B00533);
+    CHECK(emuko_expand(0x9082) == 0x000080E7);
+    CHECK(emuko_expand(0xC111) == 0x00050263);
+    CHECK(emuko_word_kind(emuko_expand(0x852E)) == EMUKO_STRAIGHT);
+    CHECK(emuko_word_kind(emuko_expand(0xC111)) == EMUKO_ENDING);
+    CHECK(!emuko_expand(0x4108) && !emuko_expand(0x9002) && !emuko_expand(0x9C45) && !emuko_expand(0x0000) && !emuko_expand(0x0093));
+    uint32_t in_line = 0;
+    for (uint32_t halfword = 0; halfword <= UINT16_MAX; halfword++) in_line += emuko_expand((uint16_t)halfword) != 0;
+    CHECK(in_line == 16088 + 6206);
 }
 
 static uint8_t out[EMUKO_GREATEST_BLOCK];
@@ -126,14 +146,17 @@ static uint64_t span_of(const uint16_t *halfwords, size_t length) {
     return reply.third;
 }
 
-/* A word counts four bytes, a load too, and a halfword two; a branch with funct3 2, which is not taken, none. A reply that is no block has
- * no third value. */
+/* A word counts four bytes, a load too, and a halfword two, in line or not; a branch with funct3 2, which is not taken, none. A reply that
+ * is no block has no third value. */
 static void spans(void) {
-    static const uint16_t halfword[] = {0x0093, 0x0050, 0x0001}, load[] = {0x0093, 0x0050, 0xB083, 0x0000},
-                          branch[] = {0x0093, 0x0050, 0x2063, 0x0000};
-    uint16_t longest[2 * EMUKO_MOST_STEPS + 2];
+    static const uint16_t in_line[] = {0x0093, 0x0050, 0x0001}, halfword[] = {0x0093, 0x0050, 0x4108},
+                          load[] = {0x0093, 0x0050, 0xB083, 0x0000}, branch[] = {0x0093, 0x0050, 0x2063, 0x0000};
+    uint16_t longest[2 * EMUKO_MOST_STEPS + 2], shortest[EMUKO_MOST_STEPS + 1];
     for (size_t k = 0; k < sizeof longest / sizeof longest[0]; k++) longest[k] = k % 2 ? 0x0050 : 0x0093;
+    for (size_t k = 0; k < sizeof shortest / sizeof shortest[0]; k++) shortest[k] = 0x0001;
+    CHECK(span_of(in_line, 3) == 6 && span_of(in_line + 2, 1) == 2);
     CHECK(span_of(halfword, 3) == 6 && span_of(halfword + 2, 1) == 2);
+    CHECK(span_of(shortest, sizeof shortest / sizeof shortest[0]) == EMUKO_MOST_SPAN / 2);
     CHECK(span_of(load, 4) == 8 && span_of(branch, 4) == 4 && span_of(load, 3) == 4);
     CHECK(span_of(longest, sizeof longest / sizeof longest[0]) == EMUKO_MOST_SPAN);
     emuko_reply refused = emuko_translate(START, 64, branch + 2, 2, 0, 0, out, sizeof out);
@@ -159,7 +182,27 @@ static void reserved_jumps(void) {
         emuko_index_empty(entries, 1, &cache);
         made_under = emuko_rules();
     }
-    CHECK(made_under == 6 && cache.used == 0 && !emuko_index_find(entries, 1, 0, START).in_use);
+    CHECK(made_under == 7 && cache.used == 0 && !emuko_index_find(entries, 1, 0, START).in_use);
+}
+
+/* A block of compressed instructions and a word: C.JALR links to the address two bytes behind its own, and jumps where ra led before. */
+static void compressed(uint8_t *store, size_t size) {
+    size_t length = needed(mixed, sizeof mixed / sizeof mixed[0], 64);
+    CHECK(length == 5);
+    emuko_reply reply = emuko_translate(START, 64, mixed, length, 0, 0, out, sizeof out);
+    CHECK(reply.number == 0 && reply.second == 4 && reply.third == 10);
+    emuko_reply placed = emuko_place(out, reply.first, store, size, 0);
+    CHECK(placed.number == 0);
+    uint64_t regs[32] = {0, START + 0x102};
+    emuko_result result = entry(store, placed.first)(regs, NULL, NULL, NULL, NULL, NULL);
+    CHECK(result.next_pc == START + 0x102 && result.executed == 4);
+    CHECK(regs[0] == 0 && regs[1] == START + 10 && regs[10] == 6 && regs[11] == 12);
+
+    /* C.NOP alone and behind a word; C.LW, which helper16 executes. */
+    static const uint16_t nop[] = {0x0093, 0x0050, 0x0001}, load16[] = {0x4108};
+    CHECK(emuko_translate(START, 64, nop + 2, 1, 0, 0, out, sizeof out).first == 81);
+    CHECK(emuko_translate(START, 64, nop, 3, 0, 0, out, sizeof out).first == 102);
+    CHECK(emuko_translate(START, 64, load16, 1, 0, 0, out, sizeof out).first == 88);
 }
 
 /* Divisions as usual, by zero, and where the signed quotient overflows. */
@@ -302,6 +345,7 @@ static void dropping(void) {
 
 int main(void) {
     kinds();
+    expansions();
     spans();
     reserved_jumps();
     indexing();
@@ -311,6 +355,7 @@ int main(void) {
     uint8_t *store = mmap(NULL, size, PROT_READ | PROT_WRITE | PROT_EXEC, MAP_PRIVATE | MAP_ANONYMOUS, -1, 0);
     CHECK(store != MAP_FAILED);
     with_a_helper(store, size);
+    compressed(store, size);
     dividing(store, size);
     puts("c/test.c: blocks were translated, placed and entered, found again and dropped");
     return 0;

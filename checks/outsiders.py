@@ -3,28 +3,31 @@
 
     checks/outsiders.py [--seed N] [--blocks N] [--runs N] [--programs N] [--pairs N] [--jumps N] [--spoil]
 
-Needs the programs translate and, for the third part, replay (`rt run < stdin` in crates/translate and in crates/replay leaves each in that
-folder's out/), objdump (binutils) for the first part, and an x86-64 Linux with qemu-riscv64 (Debian: qemu-user) for the others;
+Needs the programs translate and, for the second and third part, replay (`rt run < stdin` in crates/translate and in crates/replay leaves each
+in that folder's out/), objdump (binutils) for the first part, and an x86-64 Linux with qemu-riscv64 (Debian: qemu-user) for the others;
 QEMU_RISCV64 may name the latter. A part whose tool is missing, or of which no run is asked for, is skipped and says so.
+
+In the first three parts the runs are of words, of compressed halfwords that are translated in line, and of both. What such a halfword
+expands to says GNU binutils' table (halfwords.py).
 
 1. objdump: random runs are translated, and objdump reads the blocks. Instruction boundaries must meet every block's start and
    end, nothing may be (bad), opening and closing must be document 01's, and between them every instruction must be the one
    that the word's row in the table below says (the rest of M has its own, muldiv.py), operands included. A jump's target is read as
    the number of bytes that it skips.
-2. qemu: random runs of straight words, with or without a jump, a branch or FENCE.I at the end, are translated and entered on this
-   processor. The same words stand in the memory of a RISC-V program under qemu-riscv64, which is led through them by single
-   steps over its debugger's port. All registers and the pc must be the same after the block's count of steps.
-3. changed code: random loops that store a word over one of their own, then have FENCE.I, are run block by block on this processor, and by
-   single steps under qemu. Blocks are kept by their pc, and all are dropped behind a FENCE.I. The store, which is a helper's in a block, is
-   done here. All registers and the pc must be the same after the last step.
+2. qemu: random straight runs, with or without a jump, a branch or FENCE.I at the end, are translated at 0x80000000 or two bytes behind and
+   entered on this processor. The same bytes stand in the memory of a RISC-V program under qemu-riscv64, which is led through them by
+   single steps over its debugger's port. All registers and the pc must be the same after the block's count of steps.
+3. changed code: random loops that store a word or two halfwords over a word or two halfwords of their own, then have FENCE.I, are run block
+   by block on this processor, and by single steps under qemu. Blocks are kept by their pc, and all are dropped behind a FENCE.I. The
+   store, which is a helper's in a block, is done here. All registers and the pc must be the same after the last step.
 4. pairs: a block of the thirteen words of M is entered on this processor with pairs of operands, all pairs of corners first, then random
    ones with corners often. A RISC-V program of the same words computes all of them under qemu-riscv64. Every result must be the same.
 5. jumps: words of JALR's opcode with each funct3 are executed by a RISC-V program under qemu-riscv64, one to a program. The word must be
    translated where qemu jumps, and not be taken where qemu ends the program by an illegal instruction: then it has no block by itself, and
    the block of ADDI with it behind is that of ADDI alone.
 
-With --spoil, each part changes one thing (a byte of a block, a word of a run, that blocks are dropped, a word of M, a funct3) and must notice
-it by itself.
+With --spoil, each part changes one thing (a byte of a block, a halfword of a run, that blocks are dropped, a word of M, a funct3) and must
+notice it by itself.
 
 Ends with exit code 0 where no part found a disagreement (with --spoil: where every part found one), 1 where some part did (did not),
 2 where nothing could be checked.
@@ -32,6 +35,7 @@ Ends with exit code 0 where no part found a disagreement (with --spoil: where ev
 
 import argparse
 import ctypes
+import itertools
 import mmap
 import os
 import platform
@@ -46,6 +50,7 @@ import sys
 import tempfile
 import time
 
+import halfwords
 import muldiv
 from replies import is_fence_i
 
@@ -54,6 +59,7 @@ TRANSLATE = os.path.join(ROOT, "crates", "translate", "out", "translate")
 REPLAY = os.path.join(ROOT, "crates", "replay", "out", "replay")
 START = 0x80000000
 M64 = (1 << 64) - 1
+IN_LINE = halfwords.in_line()
 
 
 class Disagreement(Exception):
@@ -75,10 +81,20 @@ BRANCH = {0: "e", 1: "ne", 4: "l", 5: "ge", 6: "b", 7: "ae"}
 
 
 class Words:
-    """Random words by sort."""
+    """Random words by sort, and compressed halfwords, each once in a random order before any again. `share`: how many are of these."""
 
     def __init__(self, rng):
         self.rng = rng
+        ordered = lambda some: itertools.cycle(rng.sample(some, len(some)))
+        self.short_straight = ordered([h for h, word in IN_LINE.items() if not halfwords.ends(word)])
+        self.short_ending = ordered([h for h, word in IN_LINE.items() if halfwords.ends(word)])
+        self.short_others = ordered([h for h in range(1 << 16) if halfwords.size(h) == 2 and h not in IN_LINE])
+
+    def mixed(self, share):
+        return next(self.short_straight) if self.rng.random() < share else self.straight()
+
+    def mixed_ending(self, share):
+        return next(self.short_ending) if self.rng.random() < share else self.ending()
 
     def register(self):
         return self.rng.choice((0, 1, 15, 16, 31)) if self.rng.random() < .3 else self.rng.randrange(32)
@@ -152,9 +168,21 @@ class Words:
         ))
 
 
-def code_of(words, halfword=None):
-    code = b"".join(struct.pack("<I", word) for word in words)
-    return code if halfword is None else code + struct.pack("<H", halfword)
+def code_of(instructions):
+    """The bytes of words and compressed halfwords."""
+    return b"".join(i.to_bytes(halfwords.size(i), "little") for i in instructions)
+
+
+def instructions_of(code):
+    """The words and compressed halfwords of bytes."""
+    at = 0
+    while at < len(code):
+        yield int.from_bytes(code[at:at + halfwords.size(code[at])], "little")
+        at += halfwords.size(code[at])
+
+
+def short_ones(instructions):
+    return sum(i in IN_LINE for i in instructions)
 
 
 def elf(base, data, memory):
@@ -180,6 +208,9 @@ def translate(code):
     return subprocess.run([TRANSLATE], input=code, stdout=subprocess.PIPE, check=True).stdout
 
 
+# How many of a run's instructions are halfwords.
+SHARES = (0, .5, 1)
+
 # ---- what objdump is to read
 
 OPENING = ["push rbx", "push rbp", "push r12", "push r13", "push r14", "push r15", "sub rsp,0x8", "mov rbx,rdi", "mov r12,rsi",
@@ -187,8 +218,8 @@ OPENING = ["push rbx", "push rbp", "push r12", "push r13", "push r14", "push r15
 CLOSING = ["add rsp,0x8", "pop r15", "pop r14", "pop r13", "pop r12", "pop rbp", "pop rbx", "ret"]
 
 
-def destination(word):
-    return word >> 7 & 31
+def destination(instruction):
+    return IN_LINE.get(instruction, instruction) >> 7 & 31
 
 
 def signed(value, width):
@@ -208,41 +239,40 @@ def store(register, host):
     return [f"mov QWORD PTR [rbx+{hex(8 * register)}],{host}"] if register else []
 
 
-def upper_immediate(word, pc):
+def upper_immediate(word, pc, _behind):
     """LUI and AUIPC."""
     value = signed(word & 0xFFFFF000, 32) + (pc if word & 0x7F == 0x17 else 0)
     rd = destination(word)
     return ([f"movabs r10,{number(value)}"] + store(rd, "r10") if rd else []), "on"
 
 
-def jump(word, pc):
+def jump(word, pc, behind):
     """JAL and JALR."""
     if word & 0x7F == 0x67 and word >> 12 & 7:
         return [], "refused"
     rd = destination(word)
     if word & 0x7F == 0x6F:
-        offset = signed(word >> 31 << 20 | (word >> 12 & 255) << 12 | (word >> 20 & 1) << 11 | (word >> 21 & 1023) << 1, 21)
-        link = [f"movabs r10,{number(pc + 4)}"] + store(rd, "r10") if rd else []
-        return link + [f"movabs rax,{number(pc + offset)}"], "ends"
-    link = [f"movabs r11,{number(pc + 4)}"] + store(rd, "r11") if rd else []
+        link = [f"movabs r10,{number(behind)}"] + store(rd, "r10") if rd else []
+        return link + [f"movabs rax,{number(pc + signed(halfwords.offset_j(word), 21))}"], "ends"
+    link = [f"movabs r11,{number(behind)}"] + store(rd, "r11") if rd else []
     target = [load("r10", word >> 15 & 31), f"add r10,{number(signed(word >> 20, 12))}", f"and r10,{number(-2)}"]
     return target + link + ["mov rax,r10"], "ends"
 
 
-def branch(word, pc):
+def branch(word, pc, behind):
     text = [load("r10", word >> 15 & 31), load("r11", word >> 20 & 31), "cmp r10,r11"]
     condition = BRANCH.get(word >> 12 & 7)
     if condition is None:
         return text, "refused"
-    offset = signed(word >> 31 << 12 | (word >> 7 & 1) << 11 | (word >> 25 & 63) << 5 | (word >> 8 & 15) << 1, 13)
-    return text + [f"movabs r11,{number(pc + 4)}", f"movabs rax,{number(pc + offset)}", f"cmov{condition} r11,rax", "mov rax,r11"], "ends"
+    target = number(pc + signed(halfwords.offset_b(word), 13))
+    return text + [f"movabs r11,{number(behind)}", f"movabs rax,{target}", f"cmov{condition} r11,rax", "mov rax,r11"], "ends"
 
 
 def set_less(condition):
     return [f"set{condition} al", "movzx r10,al"]
 
 
-def immediate(word, _pc):
+def immediate(word, _pc, _behind):
     """OP_IMM and OP_IMM_32."""
     funct3, i, text = word >> 12 & 7, number(signed(word >> 20, 12)), [load("r10", word >> 15 & 31)]
     if word & 0x7F == 0x1B:
@@ -266,7 +296,7 @@ def immediate(word, _pc):
     return text + store(destination(word), "r10"), "on"
 
 
-def registers(word, _pc):
+def registers(word, _pc, _behind):
     """OP and OP_32."""
     wide = word & 0x7F == 0x33
     text = [load("r10", word >> 15 & 31), load("r11", word >> 20 & 31)]
@@ -290,11 +320,12 @@ FAMILIES = {0x37: upper_immediate, 0x17: upper_immediate, 0x6F: jump, 0x67: jump
             0x33: registers, 0x3B: registers}
 
 
-def host_instructions(word, pc):
-    """The host instructions of a word, and 'on', 'ends' (RAX is set by them), 'stops' (by the block's end), 'helper' or 'refused'."""
+def host_instructions(word, pc, behind):
+    """The host instructions of a word, of which another stands behind at that address, and 'on', 'ends' (RAX is set by them), 'stops' (by
+    the block's end), 'helper' or 'refused'."""
     opcode, funct3 = word & 0x7F, word >> 12 & 7
     if opcode in FAMILIES:
-        return FAMILIES[opcode](word, pc)
+        return FAMILIES[opcode](word, pc, behind)
     if opcode == 0x0F and funct3 < 2:
         return [], "stops" if funct3 == 1 else "on"
     if opcode == 0x03 and funct3 < 7 or opcode == 0x23 and funct3 < 4:
@@ -312,18 +343,19 @@ def expected(code):
     text, pc, count, at, rax = list(OPENING), START, 0, 0, False
     while count < 64 and at + 2 <= len(code):
         low = struct.unpack_from("<H", code, at)[0]
-        if low & 3 != 3:
+        size = halfwords.size(low)
+        if size == 2 and low not in IN_LINE:
             return text + helper_end(low, pc, count)
-        if at + 4 > len(code):
+        if at + size > len(code):
             break
-        word = struct.unpack_from("<I", code, at)[0]
-        more, flow = host_instructions(word, pc)
+        word = IN_LINE[low] if size == 2 else struct.unpack_from("<I", code, at)[0]
+        more, flow = host_instructions(word, pc, pc + size)
         text += more
         if flow == "helper":
             return text + helper_end(word, pc, count)
         if flow == "refused":
             break
-        pc, at, count = pc + 4, at + 4, count + 1
+        pc, at, count = pc + size, at + size, count + 1
         if flow in ("ends", "stops"):
             rax = flow == "ends"
             break
@@ -354,32 +386,30 @@ def relative(text, behind):
     return f"{match[1]} {int(match[2], 16) - behind:+}" if match else text
 
 
-def runs_for_objdump(words, number_of_runs):
+def run_for_objdump(words):
     rng = words.rng
-    for _ in range(number_of_runs):
-        straight = [words.straight() for _ in range(rng.choice((0, 1, 1, 2, 4, 16, 63, 64)))]
-        end = rng.randrange(7)
-        if end == 0:
-            straight = straight[:63] + [words.ending()]
-        elif end == 5:
-            straight = straight[:62] + [words.fence_i(), words.straight()]
-        elif end == 1:
-            straight = straight[:63] + [words.memory()]
-        elif end == 2:
-            straight = straight[:63] + [words.refused()]
-        halfword = None
-        if end == 3:
-            straight = straight[:63]
-            halfword = rng.randrange(1 << 14) << 2 | rng.randrange(3)
-        elif end == 4:
-            straight = straight[:63]
-            halfword = 0x0093
-        yield code_of(straight, halfword)
+    share, end = rng.choice(SHARES), rng.randrange(8)
+    if end == 0:
+        return code_of(next(words.short_straight) for _ in range(rng.randrange(65, 128)))
+    run = [words.mixed(share) for _ in range(rng.choice((0, 1, 1, 2, 4, 16, 63, 64)))]
+    if end == 1:
+        return code_of(run[:63] + [words.mixed_ending(share)])
+    if end == 2:
+        return code_of(run[:63] + [words.memory()])
+    if end == 3:
+        return code_of(run[:63] + [words.refused()])
+    if end == 4:
+        return code_of(run[:63] + [next(words.short_others)])
+    if end == 5:
+        return code_of(run[:62] + [words.fence_i(), words.mixed(share)])
+    if end == 6:
+        return code_of(run[:63]) + struct.pack("<H", 0x0093)
+    return code_of(run)
 
 
 def check_objdump(words, number_of_runs, spoil):
     blocks, data, refused = [], bytearray(), 0
-    for code in runs_for_objdump(words, number_of_runs):
+    for code in (run_for_objdump(words) for _ in range(number_of_runs)):
         block = translate(code)
         want = expected(code)
         demand(bool(block) == bool(want), "refused or not:", code.hex())
@@ -392,7 +422,7 @@ def check_objdump(words, number_of_runs, spoil):
         _, at, length, _ = blocks[len(blocks) // 2]
         data[at + length // 2] ^= 1
     by_place = {place: (length, text) for place, length, text in disassembled(bytes(data))} if blocks else {}
-    instructions = rest = 0
+    instructions = rest = short = 0
     for code, at, length, want in blocks:
         place, texts = at, []
         while place < at + length:
@@ -407,8 +437,9 @@ def check_objdump(words, number_of_runs, spoil):
         demand(len(texts) == len(want), "number of instructions of the block of", code.hex())
         instructions += len(texts)
         rest += sum(bool(re.fullmatch(r"(mul|imul|div|idiv) \w+", text)) for text in texts)
+        short += short_ones(instructions_of(code))
     print(f"objdump: {len(blocks)} blocks, {len(data)} bytes, {instructions} instructions as expected, {rest} words of the rest of M among "
-          f"them; {refused} runs refused")
+          f"them; {short} compressed halfwords in line in their runs; {refused} runs refused")
 
 
 # ---- blocks entered on this processor
@@ -433,7 +464,7 @@ class Processor:
 
 
 class Qemu:
-    """A RISC-V program under qemu-riscv64, led over its debugger's port: a page for the words, a page with a loop that copies, and a page
+    """A RISC-V program under qemu-riscv64, led over its debugger's port: a page for the code, a page with a loop that copies, and a page
     to copy from. qemu lets the debugger write no page that it has translated code from, but it lets the program do so."""
 
     COPY, FROM = START + 0x1000, START + 0x2000
@@ -489,16 +520,16 @@ class Qemu:
     def set(self, registers, pc):
         demand(self.ask("G" + struct.pack("<33Q", *registers, pc).hex()) == "OK", "qemu does not take the registers")
 
-    def run(self, words, registers, count):
-        """Registers and pc after so many single steps through the words."""
-        code = code_of(words)
+    def run(self, instructions, registers, count, start=START):
+        """Registers and pc after so many single steps through the instructions, which stand at the start."""
+        code = bytes(start - START) + code_of(instructions)
         code += bytes(-len(code) % 8)
-        demand(self.ask(f"M{self.FROM:x},{len(code):x}:{code.hex()}") == "OK", "qemu does not take the words")
+        demand(self.ask(f"M{self.FROM:x},{len(code):x}:{code.hex()}") == "OK", "qemu does not take the code")
         copying = [0] * 32
         copying[6], copying[7], copying[28] = self.FROM, START, self.FROM + len(code)
         self.set(copying, self.COPY)
-        demand(self.ask("c").startswith("T05"), "qemu did not copy the words")
-        self.set(registers, START)
+        demand(self.ask("c").startswith("T05"), "qemu did not copy the code")
+        self.set(registers, start)
         for _ in range(count):
             reply = self.ask("s")
             demand(reply.startswith("T05"), "qemu did not step:", reply, code.hex())
@@ -510,6 +541,28 @@ class Qemu:
         self.process.kill()
         self.process.wait()
         self.folder.cleanup()
+
+
+class Replay:
+    """The program replay, which translates at any start."""
+
+    def __init__(self):
+        self.process = subprocess.Popen([REPLAY], stdin=subprocess.PIPE, stdout=subprocess.PIPE, text=True)
+
+    def translate(self, start, run):
+        """The block of these instructions at the start."""
+        text = ",".join(f"{halfword:04x}" for (halfword,) in struct.iter_unpack("<H", code_of(run)))
+        self.process.stdin.write(f"T {start:x} 64 0 0 4099 {text}\n")
+        self.process.stdin.flush()
+        reply = self.process.stdout.readline().split()
+        demand(reply[0] == "block" and len(reply) == 5, "reply", *reply)
+        demand(int(reply[4]) == len(code_of(run[:int(reply[2])])), "span", *reply)
+        return bytes.fromhex(reply[3])
+
+    def close(self):
+        self.process.stdin.close()
+        self.process.stdout.close()
+        self.process.wait()
 
 
 CORNERS = tuple(value & M64 for value in (
@@ -531,33 +584,40 @@ def values(rng):
     return [0] + [value(rng) for _ in range(31)]
 
 
+def run_for_qemu(words):
+    share = words.rng.choice(SHARES)
+    run = [words.mixed(share) for _ in range(words.rng.choice((1, 1, 2, 3, 8, 20, 64)))]
+    return run[:63] + [words.mixed_ending(share)] if words.rng.random() < .6 else run
+
+
 def check_qemu(program, words, number_of_runs, spoil):
     rng = words.rng
-    processor, qemu = Processor(), Qemu(program)
+    processor, qemu, replay = Processor(), Qemu(program), Replay()
     steps = rest = 0
+    short = set()
     try:
         for k in range(number_of_runs):
-            run = [words.straight() for _ in range(rng.choice((1, 1, 2, 3, 8, 20, 64)))]
-            if rng.random() < .6:
-                run = run[:63] + [words.ending()]
+            run, start = run_for_qemu(words), START + rng.choice((0, 2))
             registers = values(rng)
             spoiled = spoil and k == number_of_runs // 2
             if spoiled:
-                run = [0x12345FB7]  # LUI x31
-            block = translate(code_of(run))
-            demand(block, "refused:", code_of(run).hex())
+                run = [0x6F85]  # C.LUI x31, 1
+            block = replay.translate(start, run)
             slots, pc, count = processor.run(block, registers)
             demand(count == len(run), "count", count, "of", code_of(run).hex())
-            led = [0x5A5A5FB7] if spoiled else run
-            after, at = qemu.run(led, registers, count)
+            led = [0x6F89] if spoiled else run
+            after, at = qemu.run(led, registers, count, start)
             others = [(i, hex(a), hex(b)) for i, (a, b) in enumerate(zip(slots, after)) if a != b]
-            demand(not others, "registers after", code_of(run).hex(), others)
-            demand(pc == at, "pc after", code_of(run).hex(), hex(pc), hex(at))
+            demand(not others, "registers after", hex(start), code_of(run).hex(), others)
+            demand(pc == at, "pc after", hex(start), code_of(run).hex(), hex(pc), hex(at))
             steps += count
             rest += sum(bool(muldiv.key(word)) for word in run)
+            short.update(i for i in run if i in IN_LINE)
     finally:
+        replay.close()
         qemu.close()
-    print(f"qemu: {number_of_runs} blocks, {steps} single steps, {rest} of them words of the rest of M, registers and pc the same")
+    print(f"qemu: {number_of_runs} blocks, {steps} single steps, {rest} of them words of the rest of M, {len(short)} different compressed "
+          "halfwords; registers and pc the same")
 
 
 # ---- code that changes
@@ -579,73 +639,55 @@ def store_offset(word):
     return word >> 25 << 5 | word >> 7 & 31
 
 
-def branch_back(words):
-    """BNE LEFT, x0, over so many words back."""
-    offset = -4 * words & 0x1FFF
-    return (offset >> 12 << 31 | (offset >> 5 & 63) << 25 | LEFT << 15 | 1 << 12 | (offset >> 1 & 15) << 8 | (offset >> 11 & 1) << 7 | 0x63)
+def bne_back(rs1, rs2, length):
+    """BNE over so many bytes back."""
+    return halfwords.with_offset_b(rs2 << 20 | rs1 << 15 | 1 << 12 | 0x63, -length)
 
 
 def changing_loop(words, spoil):
-    """A loop of words, and the word that it stores over one of them. That one stands in front of the store or behind the FENCE.I: between
-    them the manual leaves open which of the two is fetched."""
+    """A loop, and the four bytes that it stores over four of its own. These stand in front of the store or behind the FENCE.I: between
+    them the manual leaves open which of the two are fetched. All but a first halfword, if there is one, is in fours."""
     rng = words.rng
 
-    def straight():
+    def straight(share):
         while True:
-            word = words.straight()
-            if destination(word) not in KEPT_REGISTERS:
-                return word
+            instruction = words.mixed(share)
+            if destination(instruction) not in KEPT_REGISTERS:
+                return instruction
 
-    front, between, behind = ([straight() for _ in range(rng.randrange(least, 8))] for least in (1, 0, 1))
-    new = straight()
+    def four():
+        return [straight(1), straight(1)] if rng.random() < .5 else [straight(0)]
+
+    first = [straight(1)] if rng.random() < .5 else []
+    front, between, behind = ([four() for _ in range(rng.randrange(least, 8))] for least in (1, 0, 1))
+    new = four()
     if spoil:
-        front, between, behind, new = [0x5A5A5FB7], [], [], 0x12345FB7  # LUI x31
+        front, between, behind, new = [[0x5A5A5FB7]], [], [], [0x12345FB7]  # LUI x31
     first_behind = len(front) + 1 + len(between) + 1
     changed = rng.choice([*range(len(front)), *range(first_behind, first_behind + len(behind))])
-    loop = front + [store_word(4 * changed)] + between + [words.fence_i()] + behind
+    offset = len(code_of(first)) + 4 * changed
+    loop = first + sum(front + [[store_word(offset)]] + between + [[words.fence_i()]] + behind, [])
     loop.append(0xFFF38393)  # ADDI x7, x7, -1
-    return loop + [branch_back(len(loop))], new
-
-
-class Replay:
-    """The program replay, which translates at any start."""
-
-    def __init__(self):
-        self.process = subprocess.Popen([REPLAY], stdin=subprocess.PIPE, stdout=subprocess.PIPE, text=True)
-
-    def translate(self, start, run):
-        """The block of these words at the start."""
-        halfwords = ",".join(f"{word & 0xFFFF:04x},{word >> 16:04x}" for word in run)
-        self.process.stdin.write(f"T {start:x} 64 0 0 4099 {halfwords}\n")
-        self.process.stdin.flush()
-        reply = self.process.stdout.readline().split()
-        demand(reply[0] == "block" and len(reply) == 5, "reply", *reply)
-        demand(int(reply[4]) == 4 * int(reply[2]), "span", *reply)
-        return bytes.fromhex(reply[3])
-
-    def close(self):
-        self.process.stdin.close()
-        self.process.stdout.close()
-        self.process.wait()
+    return loop + [bne_back(LEFT, 0, len(code_of(loop)))], int.from_bytes(code_of(new), "little")
 
 
 def run_by_blocks(replay, processor, loop, registers, drops):
     """Registers, pc, steps and entries of a loop run to its end. Blocks are kept by pc; `drops`: none is kept behind a FENCE.I."""
-    code, kept = list(loop), {}
+    code, kept = bytearray(code_of(loop)), {}
     pc, steps, entries = START, 0, 0
-    while START <= pc < START + 4 * len(code):
-        at = (pc - START) // 4
-        if is_store(code[at]):
-            code[(registers[ADDRESS] + store_offset(code[at]) - START) // 4] = registers[STORED]
+    while START <= pc < START + len(code):
+        rest = list(instructions_of(code[pc - START:]))
+        if is_store(rest[0]):
+            at = registers[ADDRESS] + store_offset(rest[0]) - START
+            code[at:at + 4] = registers[STORED].to_bytes(4, "little")
             pc, steps = pc + 4, steps + 1
             continue
         if pc not in kept:
-            until = next((k for k in range(at, len(code)) if is_store(code[k])), len(code))
-            kept[pc] = replay.translate(pc, code[at:until])
+            until = next((k for k, i in enumerate(rest) if is_store(i)), len(rest))
+            kept[pc] = replay.translate(pc, rest[:until])
         registers, pc, count = processor.run(kept[pc], registers)
-        last = code[at + count - 1]
         steps, entries = steps + count, entries + 1
-        if drops and is_fence_i(last):
+        if drops and is_fence_i(rest[count - 1]):
             kept.clear()
     return registers, pc, steps, entries
 
@@ -653,7 +695,7 @@ def run_by_blocks(replay, processor, loop, registers, drops):
 def check_changed_code(program, words, number_of_programs, spoil):
     rng = words.rng
     processor, qemu, replay = Processor(), Qemu(program), Replay()
-    steps = entries = 0
+    steps = entries = short = 0
     try:
         for k in range(number_of_programs):
             spoiled = spoil and k == number_of_programs // 2
@@ -665,11 +707,12 @@ def check_changed_code(program, words, number_of_programs, spoil):
             others = [(i, hex(a), hex(b)) for i, (a, b) in enumerate(zip(after, led)) if a != b]
             demand(not others, "registers after", code_of(loop).hex(), hex(new), others)
             demand(pc == at, "pc after", code_of(loop).hex(), hex(new), hex(pc), hex(at))
-            steps, entries = steps + more, entries + entered
+            steps, entries, short = steps + more, entries + entered, short + short_ones(loop)
     finally:
         replay.close()
         qemu.close()
-    print(f"changed code: {number_of_programs} programs, {entries} entries of blocks, {steps} single steps, registers and pc the same")
+    print(f"changed code: {number_of_programs} programs with {short} compressed halfwords, {entries} entries of blocks, {steps} single steps, "
+          "registers and pc the same")
 
 
 # ---- pairs of operands for the words of M
@@ -698,12 +741,6 @@ def store_double(rs2, offset, rs1):
     return offset >> 5 << 25 | rs2 << 20 | rs1 << 15 | 3 << 12 | (offset & 31) << 7 | 0x23
 
 
-def bne_back(rs1, rs2, words):
-    offset = -4 * words & 0x1FFF
-    return (offset >> 12 << 31 | (offset >> 5 & 63) << 25 | rs2 << 20 | rs1 << 15 | 1 << 12 | (offset >> 1 & 15) << 8
-            | (offset >> 11 & 1) << 7 | 0x63)
-
-
 def program_of_pairs(pairs):
     """A RISC-V program, as an ELF file: all words of M of each pair, written to standard output."""
     base, code_size = 0x10000, 0x1000
@@ -716,11 +753,11 @@ def program_of_pairs(pairs):
     for k, row in enumerate(M):
         loop += [m_word(row, 13, 11, 12), store_double(13, 8 * k, 7)]
     loop += [addi(5, 5, 16), addi(7, 7, 8 * len(M))]
-    code += loop + [bne_back(5, 6, len(loop))]
+    code += loop + [bne_back(5, 6, len(code_of(loop)))]
     # write(1, results, length) until nothing is left, then exit(0)
     code += lui_addi(8, at_results) + lui_addi(9, length)
     write = [addi(17, 0, 64), addi(10, 0, 1), addi(11, 8, 0), addi(12, 9, 0), ecall, 0x00A40433, 0x40A484B3]  # x8 += x10; x9 -= x10
-    code += write + [bne_back(9, 0, len(write)), addi(17, 0, 93), addi(10, 0, 0), ecall]
+    code += write + [bne_back(9, 0, len(code_of(write))), addi(17, 0, 93), addi(10, 0, 0), ecall]
     data = code_of(code).ljust(code_size, b"\0") + b"".join(struct.pack("<QQ", *pair) for pair in pairs)
     return elf(base, data, len(data) + length)
 
@@ -820,14 +857,13 @@ def parts(options):
     here = (platform.system(), platform.machine()) == ("Linux", "x86_64")
     missing = None if qemu else "qemu-riscv64 is not installed (Debian: qemu-user)"
     missing = missing if here else "blocks can be entered on x86-64 Linux only"
-    if options.runs == 0 or missing:
-        skipped("qemu", missing or "no run is asked for")
+    no_replay = None if os.access(REPLAY, os.X_OK) else "crates/replay/out/replay is not there: `rt run < stdin` in crates/replay builds it"
+    if options.runs == 0 or missing or no_replay:
+        skipped("qemu", missing or no_replay or "no run is asked for")
     else:
         found.append(("qemu", lambda: check_qemu(qemu, Words(random.Random(options.seed + 1)), options.runs, options.spoil)))
-    if options.programs == 0 or missing:
-        skipped("changed code", missing or "no program is asked for")
-    elif not os.access(REPLAY, os.X_OK):
-        skipped("changed code", "crates/replay/out/replay is not there: `rt run < stdin` in crates/replay builds it")
+    if options.programs == 0 or missing or no_replay:
+        skipped("changed code", missing or no_replay or "no program is asked for")
     else:
         words = Words(random.Random(options.seed + 2))
         found.append(("changed code", lambda: check_changed_code(qemu, words, options.programs, options.spoil)))

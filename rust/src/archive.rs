@@ -21,6 +21,7 @@ pub(crate) struct CodeCache {
 extern "C" {
     pub(crate) fn emuko_rules() -> u32;
     pub(crate) fn emuko_word_kind(instr: u32) -> u32;
+    pub(crate) fn emuko_expand(halfword: u16) -> u32;
     pub(crate) fn emuko_translate(
         start: u64,
         limit: u32,

@@ -39,7 +39,7 @@ pub type HelperFn = unsafe extern "C" fn(
 /// The addresses that helper ends call, each that of a [`HelperFn`].
 #[derive(Clone, Copy, Debug, Default, PartialEq, Eq, Hash)]
 pub struct Helpers {
-    /// Called for a compressed halfword.
+    /// Called for a compressed halfword that has no [`expansion`](crate::expansion).
     pub halfword: u64,
     /// Called for a load or store.
     pub memory: u64,

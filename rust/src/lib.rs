@@ -20,7 +20,8 @@
 //! makes a function of one.
 //!
 //! Multiplication and division (M) are in line. A zero divisor and the signed overflow give the RISC-V manual's values, and never the
-//! host's fault.
+//! host's fault. Compressed instructions are in line where the word that one expands to is ([`expansion`]); loads and stores, compressed or
+//! not, are executed by helpers, and so are the other compressed ones.
 //!
 //! # Blocks found again
 //!
@@ -107,10 +108,10 @@
 //!     }
 //! }
 //!
-//! // JALR x0, 0(x1) with funct3 1, of which an earlier archive made a block of 81 bytes.
-//! let block = NativeBlock { offset: 0, count: 1, length: 81, span: 4 };
+//! // C.NOP, of which an earlier archive made a block of 88 bytes that calls a helper.
+//! let block = NativeBlock { offset: 0, count: 1, length: 88, span: 2 };
 //! let mut kept = Kept {
-//!     store: CodeStore::with_mark([0; 4096], 81),
+//!     store: CodeStore::with_mark([0; 4096], 88),
 //!     index: BlockIndex::new([Entry::default(); 2]),
 //!     rules: None,
 //! };
@@ -124,9 +125,10 @@
 //! # Ok::<(), emuko_x64_blocks::InsertRefusal>(())
 //! ```
 //!
-//! The rules of this version are 6: JALR with funct3 1 to 7, which the RISC-V manual reserves, is no longer taken (request Q-6 of the
-//! repository's docs). Version 0.3.0 and those before it had no number, and took it as JALR; the entries of those before 0.3.0 have another
-//! size and are made anew. Blocks hold the addresses of their helpers: where these have moved, an index is emptied whatever the rules.
+//! The rules of this version are 7: compressed integer instructions, of which a helper executed every one before, are in line (request Q-7 of
+//! the repository's docs). By rules 6 JALR with funct3 1 to 7, which the RISC-V manual reserves, is no longer taken (Q-6). Version 0.3.0 and
+//! those before it had no number, and took it as JALR; the entries of those before 0.3.0 have another size and are made anew. Blocks hold the
+//! addresses of their helpers: where these have moved, an index is emptied whatever the rules.
 //!
 //! # Code that changes
 //!
@@ -187,9 +189,10 @@
 //! let mut out = [0; GREATEST_BLOCK];
 //! let block = translate(&Request::new(0x8000_0000, &run), &mut out)?;
 //! assert_eq!((block.bytes().len(), block.count(), block.span()), (67, 1, 4));
-//! // The block's last word is word count - 1 of the run; by opcode and funct3 it is FENCE.I.
-//! let last = run[2 * (block.count() as usize - 1)];
-//! assert_eq!(last & 0x707F, 0x100F);
+//! // The block's last instruction stands behind count - 1 others, of one or two halfwords each; by opcode and funct3 it is FENCE.I.
+//! let length = |halfword: u16| if halfword & 3 == 3 { 2 } else { 1 };
+//! let last = (1..block.count()).fold(0, |at, _| at + length(run[at]));
+//! assert_eq!(run[last] & 0x707F, 0x100F);
 //! # Ok::<(), emuko_x64_blocks::Refusal>(())
 //! ```
 //!
@@ -216,7 +219,7 @@ pub use buckets::BucketIndex;
 pub use entry::{block_fn, BlockFn, BlockResult, HelperFn, Helpers};
 pub use index::{BlockIndex, Entry, InsertRefusal, NativeBlock};
 pub use placing::{place, CodeStore, PlaceRefusal, Placed};
-pub use run::{word_kind, Run, WordKind};
+pub use run::{expansion, word_kind, Run, WordKind};
 pub use translation::{rules, translate, Block, Refusal, Request};
 
 /// The greatest length of a block in bytes: sixty-four times DIVW. An output of this length is never too short, and a shorter one always
@@ -226,8 +229,9 @@ pub const GREATEST_BLOCK: usize = 4099;
 /// The least length of a block in bytes: a jump alone, for one.
 pub const LEAST_BLOCK: usize = 67;
 
-/// The greatest number of guest instructions in a block. Higher limits work as this one.
+/// The greatest number of guest instructions in a block, whatever their size. Higher limits work as this one.
 pub const MOST_STEPS: u32 = 64;
 
-/// The greatest number of bytes of the guest's code that a block [spans](Block::span): those of [`MOST_STEPS`] words.
+/// The greatest number of bytes of the guest's code that a block [spans](Block::span): those of [`MOST_STEPS`] words. As many compressed
+/// instructions have half of it.
 pub const MOST_SPAN: u64 = 256;

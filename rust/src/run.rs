@@ -1,4 +1,4 @@
-//! What becomes of a word, and the halfwords that a translation needs.
+//! What becomes of a word and of a compressed halfword, and the halfwords that a translation needs.
 
 use crate::archive;
 use crate::MOST_STEPS;
@@ -45,6 +45,41 @@ pub fn word_kind(instr: u32) -> WordKind {
     }
 }
 
+/// The word that a compressed halfword is translated as, in line: its expansion by the RISC-V manual's chapter "C", hints included, where
+/// that is [straight](WordKind::Straight) or [ending](WordKind::Ending). It still has 2 bytes of the guest's code: where its block goes on,
+/// and what it links to, is 2 behind its pc.
+///
+/// None for all others, which the [halfword helper](crate::Helpers::halfword) executes: loads and stores, floating point, C.EBREAK, and what
+/// the manual reserves. None too for a halfword whose low two bits are 3: it is the first of a word.
+///
+/// ```
+/// use emuko_x64_blocks::expansion;
+///
+/// assert_eq!(expansion(0x852E), Some(0x00B0_0533)); // C.MV a0, a1: ADD x10, x0, x11
+/// assert_eq!(expansion(0x0001), Some(0x0000_0013)); // C.NOP: ADDI x0, x0, 0
+/// assert_eq!(expansion(0xC111), Some(0x0005_0263)); // C.BEQZ a0, 4: BEQ x10, x0, 4
+/// assert_eq!(expansion(0x9082), Some(0x0000_80E7)); // C.JALR ra: JALR x1, 0(x1)
+/// assert_eq!(expansion(0x4108), None); // C.LW a0, 0(a0)
+/// assert_eq!(expansion(0x9002), None); // C.EBREAK
+/// assert_eq!(expansion(0x0000), None); // reserved
+/// assert_eq!(expansion(0x0093), None); // the lower half of ADDI x1, x0, 5
+/// ```
+#[must_use]
+#[inline]
+pub fn expansion(halfword: u16) -> Option<u32> {
+    // SAFETY: The function takes and returns a number.
+    match unsafe { archive::emuko_expand(halfword) } {
+        0 => None,
+        word => Some(word),
+    }
+}
+
+/// Where a block goes on behind a word: at the next instruction, if the word is straight.
+#[inline]
+fn goes_on(word: u32, next: u64) -> Option<u64> {
+    (word_kind(word) == WordKind::Straight).then_some(next)
+}
+
 /// The guest's code from an address on, no more of it than a translation needs.
 ///
 /// A translation of these halfwords is the translation of all that could have been fetched (`needs_no_more`, proved in the
@@ -66,20 +101,21 @@ impl Run {
         }
     }
 
-    /// Fetches halfword by halfword from `start` on, each by a call of `fetch` with its address. None is fetched behind a compressed
-    /// instruction, behind a word that is not [straight](WordKind::Straight), such as FENCE.I, or behind `limit` instructions; none at
-    /// all where the limit is 0 or the start odd, which [`translate`](crate::translate) refuses. What the run held before is gone.
+    /// Fetches halfword by halfword from `start` on, each by a call of `fetch` with its address. None is fetched behind a word that is not
+    /// [straight](WordKind::Straight), such as FENCE.I, behind a compressed instruction whose [`expansion`] is none or not straight, or
+    /// behind `limit` instructions; none at all where the limit is 0 or the start odd, which [`translate`](crate::translate) refuses. What
+    /// the run held before is gone.
     ///
     /// ```
     /// use emuko_x64_blocks::Run;
     ///
-    /// // ADDI, then a jump; what stands behind it is not asked for.
-    /// let memory = [0x0093, 0x0050, 0x006F, 0x0000, 0x0093];
+    /// // ADDI, C.NOP, then a jump; what stands behind it is not asked for.
+    /// let memory = [0x0093, 0x0050, 0x0001, 0x006F, 0x0000, 0x0093];
     /// let mut run = Run::new();
     /// run.fetch(0x8000_0000, 64, |address| {
     ///     memory.get((address - 0x8000_0000) as usize / 2).copied().ok_or("nothing stands there")
     /// })?;
-    /// assert_eq!(*run, memory[..4]);
+    /// assert_eq!(*run, memory[..5]);
     /// # Ok::<(), &str>(())
     /// ```
     ///
@@ -97,31 +133,34 @@ impl Run {
         if start % 2 != 0 {
             return Ok(());
         }
-        for k in 0..u64::from(limit.min(MOST_STEPS)) {
-            match self.fetch_instruction(start.wrapping_add(4 * k), &mut fetch) {
-                Ok(true) => {}
+        let mut pc = start;
+        for k in 0..limit.min(MOST_STEPS) {
+            match self.fetch_instruction(pc, &mut fetch) {
+                Ok(Some(next)) => pc = next,
                 Err(error) if k == 0 => return Err(error),
-                Ok(false) | Err(_) => break,
+                Ok(None) | Err(_) => break,
             }
         }
         Ok(())
     }
 
-    /// One instruction more; whether the block goes on behind it.
+    /// One instruction more; where the block goes on, if it does.
     #[inline]
     fn fetch_instruction<E>(
         &mut self,
         pc: u64,
         fetch: &mut impl FnMut(u64) -> Result<u16, E>,
-    ) -> Result<bool, E> {
+    ) -> Result<Option<u64>, E> {
         let lower = fetch(pc)?;
         self.push(lower);
         if lower & 3 != 3 {
-            return Ok(false);
+            let next = pc.wrapping_add(2);
+            return Ok(expansion(lower).and_then(|word| goes_on(word, next)));
         }
         let upper = fetch(pc.wrapping_add(2))?;
         self.push(upper);
-        Ok(word_kind(u32::from(upper) << 16 | u32::from(lower)) == WordKind::Straight)
+        let word = u32::from(upper) << 16 | u32::from(lower);
+        Ok(goes_on(word, pc.wrapping_add(4)))
     }
 
     #[inline]

@@ -76,7 +76,7 @@ impl<'o> Block<'o> {
         self.bytes
     }
 
-    /// The number of guest instructions in it, the one that a helper executes included; from 1 to [`MOST_STEPS`].
+    /// The number of guest instructions in it, whatever their size, the one that a helper executes included; from 1 to [`MOST_STEPS`].
     #[must_use]
     #[inline]
     pub fn count(&self) -> u32 {
@@ -84,8 +84,7 @@ impl<'o> Block<'o> {
     }
 
     /// How many bytes of the guest's code the block spans, from its start on: the sizes of the instructions that it counts, added up. A
-    /// word has 4 bytes, whoever executes it, and a compressed halfword, which a helper executes, has 2. From 2 to
-    /// [`MOST_SPAN`](crate::MOST_SPAN).
+    /// word has 4 bytes and a compressed halfword 2, whoever executes them. From 2 to [`MOST_SPAN`](crate::MOST_SPAN).
     ///
     /// What a block ends before is not counted and not spanned: a word that is not taken, a halfword that is missing, whatever stands
     /// behind the limit. Such code may change, and the block may still be entered; once one of the bytes that it spans has changed, it may
@@ -96,8 +95,9 @@ impl<'o> Block<'o> {
     ///
     /// let mut out = [0; GREATEST_BLOCK];
     /// let mut span = |run: &[u16]| translate(&Request::new(0x8000_0000, run), &mut out).map(|block| block.span());
-    /// // ADDI x1, x0, 5; then C.NOP; LD x1, 0(x1); a branch with funct3 2, which is not taken; the first half of a word.
+    /// // ADDI x1, x0, 5; then C.NOP; C.LW a0, 0(a0); LD x1, 0(x1); a branch with funct3 2, which is not taken; the first half of a word.
     /// assert_eq!(span(&[0x0093, 0x0050, 0x0001])?, 6);
+    /// assert_eq!(span(&[0x0093, 0x0050, 0x4108])?, 6);
     /// assert_eq!(span(&[0x0093, 0x0050, 0xB083, 0x0000])?, 8);
     /// assert_eq!(span(&[0x0093, 0x0050, 0x2063, 0x0000])?, 4);
     /// assert_eq!(span(&[0x0093, 0x0050, 0x0093])?, 4);
@@ -171,8 +171,8 @@ impl fmt::Display for Refusal {
 
 impl Error for Refusal {}
 
-/// By which rules the archive translates: a number that grows with every change to what a run is translated to. It is 6 where JALR with
-/// funct3 1 to 7, which the RISC-V manual reserves, is not taken.
+/// By which rules the archive translates: a number that grows with every change to what a run is translated to. It is 7 where compressed
+/// instructions are translated as the words that they expand to ([`expansion`](crate::expansion)).
 ///
 /// An index of blocks that was made under other rules is to be emptied: [An index made before](crate#an-index-made-before).
 #[must_use]

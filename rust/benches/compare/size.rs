@@ -30,7 +30,9 @@ pub fn rows() {
         sizes.fold((0, 0), |(n, sum), (_, size)| (n + 1, sum + size))
     };
     let (new_number, new) = sum(&|name| {
-        let crates = ["block::", "walk::", "words::", "muldiv::", "kind::"];
+        let crates = [
+            "block::", "walk::", "words::", "muldiv::", "kind::", "decode::",
+        ];
         name == "emuko_translate" || crates.iter().any(|start| name.starts_with(start))
     });
     // The walk stands beside the original's functions; the helpers' bodies, and `compile_native_block` with bus and maps, do not count.

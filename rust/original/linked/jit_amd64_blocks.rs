@@ -70,16 +70,19 @@ impl Hart {
             "jit-x64: compiled hart={} satp=0x{:016x} pc=0x{:016x} instrs={instrs}",
             self.hart_id, self.satp_cached, self.pc
         );
-        // A compressed instruction is the last, and its halfword the run's last.
-        for (k, instr) in run.chunks(2).take(instrs as usize).enumerate() {
-            let pc = self.pc.wrapping_add(4 * k as u64);
-            if let [lower, upper] = *instr {
-                let raw = (upper as u32) << 16 | lower as u32;
+        // An instruction has one halfword or two.
+        let mut at = 0;
+        for _ in 0..instrs {
+            let (pc, lower) = (self.pc.wrapping_add(2 * at as u64), run[at]);
+            if lower & 3 == 3 {
+                let raw = (run[at + 1] as u32) << 16 | lower as u32;
                 let text = disas::disas32(raw);
                 eprintln!("  jit-x64:   pc=0x{pc:016x} i32=0x{raw:08x} {text}");
+                at += 2;
             } else {
-                let text = disas::disas16(instr[0]);
-                eprintln!("  jit-x64:   pc=0x{pc:016x} c16=0x{:04x} {text}", instr[0]);
+                let text = disas::disas16(lower);
+                eprintln!("  jit-x64:   pc=0x{pc:016x} c16=0x{lower:04x} {text}");
+                at += 1;
             }
         }
     }

@@ -1,14 +1,16 @@
 //! Random requests: replies and every byte of the output against the original Rust, whose run is cut behind a FENCE.I and has stand-ins
 //! (module `judged`).
 
-use crate::fence_i::words_to_fence_i;
+use crate::compressed;
+use crate::fence_i::instructions_to_fence_i;
 use crate::judged::judged;
 use crate::random::Random;
 use crate::requests::{self, Lent, Wanted};
 use crate::reserved_jalr::{ends_block, first_reserved};
 use crate::rest_of_m::first_of_the_rest;
+use crate::runs::instructions;
 use crate::spans;
-use crate::words;
+use crate::words::{self, halves};
 use emuko_original::{Answer, Emuko, Original, CODE_SIZE};
 use emuko_x64_blocks::{translate, Refusal, Request, GREATEST_BLOCK};
 
@@ -107,6 +109,48 @@ struct Seen {
     rest_of_m: [u32; 3],
     /// JALR's opcode with a reserved funct3: as the first word, and where it ends a block.
     reserved_jalr: [u32; 2],
+    compressed: Compressed,
+}
+
+/// Blocks with compressed instructions in line.
+#[derive(Debug, Default)]
+struct Compressed {
+    /// Straight ones in blocks that have words too, in blocks that have none, and sixty-four in a block.
+    straight: [u32; 3],
+    /// Blocks that one ends: as the only instruction, behind compressed ones alone, and behind words too.
+    ending: [u32; 3],
+    /// Behind which stands a load or store of 32 bits, or a halfword, that a helper executes.
+    by_helper: [u32; 2],
+    /// Among which AUIPC stands.
+    auipc: u32,
+}
+
+impl Compressed {
+    /// Adds a block of so many instructions.
+    fn add(&mut self, halfwords: &[u16], count: usize) {
+        let block: Vec<_> = instructions(halfwords).take(count).collect();
+        let in_line = block.iter().filter(|(at, _)| at.len() == 1).count();
+        if in_line == 0 {
+            return;
+        }
+        // A halfword that a helper executes is counted, and is none of these.
+        self.by_helper[1] += (block.len() < count) as u32;
+        let (last, word) = block.last().unwrap();
+        self.by_helper[0] += [0x03, 0x23].contains(&(word & 0x7F)) as u32;
+        self.auipc += block.iter().any(|(_, word)| word & 0x7F == 0x17) as u32;
+        let words = block.len() - in_line;
+        if last.len() == 1 && compressed::ends(*word) {
+            let which = if words > 0 { 2 } else { (count > 1) as usize };
+            self.ending[which] += 1;
+        } else {
+            let which = if words > 0 {
+                0
+            } else {
+                1 + (in_line == 64) as usize
+            };
+            self.straight[which] += 1;
+        }
+    }
 }
 
 impl Seen {
@@ -120,6 +164,7 @@ impl Seen {
             by_fence_i: [0; 2],
             rest_of_m: [0; 3],
             reserved_jalr: [0; 2],
+            compressed: Compressed::default(),
         }
     }
 
@@ -128,10 +173,11 @@ impl Seen {
             Ok(block) => {
                 self.counts[block.count as usize] += 1;
                 let count = block.count as usize;
-                if words_to_fence_i(halfwords) == Some(count) {
-                    let behind = halfwords.len() - 2 * count;
+                if instructions_to_fence_i(halfwords) == Some(count) {
+                    let behind = halfwords.len() - block.span as usize / 2;
                     self.by_fence_i[(behind > 1) as usize] += 1;
                 }
+                self.compressed.add(halfwords, count);
                 let which = match first_of_the_rest(halfwords) {
                     Some(0) => 1,
                     Some(first) if first < count => 2,
@@ -175,6 +221,14 @@ fn random_requests(seed: u64, number: u32) {
     assert!(seen.by_fence_i.iter().all(|n| *n > 20_000), "{seen:?}");
     assert!(seen.rest_of_m.iter().all(|n| *n > 50_000), "{seen:?}");
     assert!(seen.reserved_jalr.iter().all(|n| *n > 1_000), "{seen:?}");
+    let Compressed {
+        straight,
+        ending,
+        by_helper,
+        auipc,
+    } = seen.compressed;
+    let compressed = [&straight[..], &ending, &by_helper, &[auipc]].concat();
+    assert!(compressed.iter().all(|n| *n > 500), "{seen:?}");
 }
 
 #[test]
@@ -187,38 +241,44 @@ fn random_requests_second_seed() {
     random_requests(2, 1_000_000);
 }
 
-/// So many straight words, then an end by its number: the first four count.
-fn run_to(r: &mut Random, words: u32, end: u32) -> Vec<u16> {
+/// So many straight instructions, of which about so many out of a hundred are compressed, then an end by its number: the first five count.
+fn run_to(r: &mut Random, instructions: u32, chances: u64, end: u32) -> Vec<u16> {
     let mut run = Vec::new();
-    for _ in 0..words {
-        run.extend(words::halves(words::straight(r)));
+    for _ in 0..instructions {
+        if r.percent(chances) {
+            run.push(compressed::straight(r));
+        } else {
+            run.extend(halves(words::straight(r)));
+        }
     }
     match end {
-        0 => run.extend(words::halves(words::ending(r))),
-        1 => run.extend(words::halves(words::memory(r))),
-        2 => run.push(words::halfword(r)),
-        // A straight word behind it, which is no more of the block.
-        3 => {
-            run.extend(words::halves(words::fence_i(r)));
-            run.extend(words::halves(words::straight(r)));
+        0 => run.extend(halves(words::ending(r))),
+        1 => run.extend(halves(words::memory(r))),
+        // Something behind it, which is no more of the block.
+        2 => run.extend([compressed::by_helper(r), 0x0001]),
+        3 => run.extend([compressed::ending(r), 0x0001]),
+        4 => {
+            run.extend(halves(words::fence_i(r)));
+            run.extend(halves(words::straight(r)));
         }
-        4 => run.extend(words::halves(words::not_taken(r))),
-        5 => run.push(0x0093),
+        5 => run.extend(halves(words::not_taken(r))),
+        6 => run.push(0x0093),
         _ => {}
     }
     run
 }
 
-/// Every end at every count: n straight words, then each sort of end, under limits below, at and above what is there.
+/// Every end at every count: n straight instructions, words or compressed ones or both, then each sort of end, under limits below, at and
+/// above what is there.
 #[test]
 fn every_end_at_every_count() {
     let mut r = Random::new(3);
     let mut comparison = Comparison::new(3);
     let mut requests = 0;
-    for n in 0..=65 {
-        for end in 0..7 {
+    for (n, chances) in (0..=65).flat_map(|n| [(n, 0), (n, 50), (n, 100)]) {
+        for end in 0..8 {
             for limit in [n.max(1) - 1, n, n + 1, 64, 65] {
-                let halfwords = run_to(&mut r, n, end);
+                let halfwords = run_to(&mut r, n, chances, end);
                 let wanted = Wanted {
                     start: requests::start(&mut r) & !1,
                     limit,
@@ -229,7 +289,7 @@ fn every_end_at_every_count() {
                 };
                 let reply = comparison.wanted(&wanted);
                 // An end counts where a helper or a word takes it, and where the limit lets it be reached.
-                let taken = n + (end < 4) as u32;
+                let taken = n + (end < 5) as u32;
                 match reply {
                     Ok(block) => assert_eq!(block.count, taken.min(limit).min(64)),
                     Err(refusal) => {
@@ -240,7 +300,7 @@ fn every_end_at_every_count() {
             }
         }
     }
-    assert_eq!(requests, 66 * 7 * 5);
+    assert_eq!(requests, 66 * 3 * 8 * 5);
 }
 
 /// Every length of the output below the greatest block is refused, and none above it, whatever the block's length: ADDI alone, and the
@@ -250,7 +310,7 @@ fn every_output_length() {
     let mut comparison = Comparison::new(4);
     let mut lengths = 0;
     for (word, words, length) in [(0x0050_0093, 1, 88), (0x0020_91BB, 64, 2243)] {
-        let run = words::halves(word).repeat(words);
+        let run = halves(word).repeat(words);
         let request = Request::new(0x8000_0000, &run);
         for output in 0..GREATEST_BLOCK {
             let reply = comparison.reply(&request, output);

@@ -1,10 +1,12 @@
-//! Document 01's cases and those of requests, one by one.
+//! Document 01's cases and those of requests, one by one.
 
-use crate::archive::{emuko_place, emuko_rules, emuko_translate, emuko_word_kind, Reply};
+use crate::archive::{
+    emuko_expand, emuko_place, emuko_rules, emuko_translate, emuko_word_kind, Reply,
+};
 use crate::words::halves;
 use emuko_x64_blocks::{
-    place, translate, word_kind, Helpers, PlaceRefusal, Refusal, Request, WordKind, GREATEST_BLOCK,
-    LEAST_BLOCK, MOST_STEPS,
+    expansion, place, translate, word_kind, Helpers, PlaceRefusal, Refusal, Request, WordKind,
+    GREATEST_BLOCK, LEAST_BLOCK, MOST_STEPS,
 };
 
 const START: u64 = 0x8000_0000;
@@ -72,7 +74,7 @@ fn odd_starts() {
 fn missing_halfwords() {
     assert_eq!(refusal(&[]), Refusal::MissingHalfword(0));
     assert_eq!(refusal(&[0x0093]), Refusal::MissingHalfword(1));
-    assert_eq!(size(&[0x0001]), (88, 1));
+    assert_eq!(size(&[0x0001]), (81, 1));
     // After a first word a missing halfword ends the block.
     assert_eq!(size(&[0x0093, 0x0050, 0x0093]), (88, 1));
 }
@@ -236,9 +238,72 @@ fn left_by_words_not_taken() {
     }
 }
 
+/// Whether the eight bytes of a number stand in the block of a run.
+fn holds(halfwords: &[u16], number: u64) -> bool {
+    let (bytes, _) = reply(START, 64, halfwords).unwrap();
+    bytes
+        .windows(8)
+        .any(|window| window == number.to_le_bytes())
+}
+
+/// Request Q-7's table: compressed instructions that go on, and which helpers execute.
 #[test]
-fn compressed_behind_a_word() {
-    assert_eq!(size(&[0x0093, 0x0050, 0x0001]), (116, 2));
+fn compressed() {
+    assert_eq!(size(&[0x0001]), (81, 1)); // C.NOP
+    assert_eq!(size(&[0x0093, 0x0050, 0x0001]), (102, 2));
+    assert_eq!(size(&[0x0005]), (81, 1)); // C.NOP 1, a hint
+    assert_eq!(size(&[0x0502]), (85, 1)); // C.SLLI a0, 0, a hint
+    assert_eq!(size(&[0x852E]), (91, 1)); // C.MV a0, a1
+    for halfword in [0x0001, 0x0005, 0x0502, 0x852E] {
+        let (bytes, _) = reply(START, 64, &[halfword]).unwrap();
+        assert_eq!(rax_at_the_end(&bytes), START + 2);
+        // The next instruction, at 2 modulo 4.
+        let (bytes, count) = reply(START, 64, &[halfword, 0x0093, 0x0050]).unwrap();
+        assert_eq!((count, rax_at_the_end(&bytes)), (2, START + 6));
+    }
+    // C.LW; C.EBREAK; reserved: 100-1-11-10 in quadrant 1, C.ADDIW to x0, C.ADDI16SP 0, C.LUI 0, C.JR x0, 0x0000.
+    for halfword in [
+        0x4108, 0x9002, 0x9C45, 0x2001, 0x6101, 0x6281, 0x8002, 0x0000,
+    ] {
+        assert_eq!(size(&[halfword]), (88, 1), "{halfword:04x}");
+        assert!(holds(&[halfword], halfword.into()) && !holds(&[halfword], START + 2));
+        assert_eq!(expansion(halfword), None);
+    }
+}
+
+/// The whole block of C.MV a0, a1, which is ADD x10, x0, x11.
+#[test]
+fn the_bytes_of_c_mv() {
+    let (bytes, _) = reply(START, 64, &[0x852E]).unwrap();
+    let body = [
+        0x4C, 0x8B, 0x93, 0x00, 0x00, 0x00, 0x00, 0x4C, 0x8B, 0x9B, 0x58, 0x00, 0x00,
+        0x00, // loads of x0 and x11
+        0x4D, 0x01, 0xDA, // R10 += R11
+        0x4C, 0x89, 0x93, 0x50, 0x00, 0x00, 0x00, // store
+    ];
+    assert_eq!(bytes[32..56], body);
+    assert_eq!(bytes[56..66], rax(START + 2));
+    let add = reply(START - 2, 64, &halves(0x00B0_0533));
+    assert_eq!(add, Ok((bytes, 1)));
+}
+
+/// Compressed jumps: where the block goes on and what is linked to is two bytes behind them.
+#[test]
+fn compressed_jumps() {
+    // C.JALR ra; C.JR ra.
+    assert_eq!(size(&[0x9082]), (98, 1));
+    assert!(holds(&[0x9082], START + 2) && !holds(&[0x9082], START + 4));
+    assert_eq!(size(&[0x8082]), (81, 1));
+    // C.BEQZ a0, 4.
+    assert_eq!(size(&[0xC111]), (101, 1));
+    assert!(holds(&[0xC111], START + 2) && holds(&[0xC111], START + 4));
+    // C.J 0, C.J -2048: no link.
+    assert_eq!(size(&[0xA001]), (67, 1));
+    assert!(holds(&[0xA001], START) && holds(&[0xB001], START - 2048));
+    // Behind C.NOP all of them stand two bytes further.
+    assert!(holds(&[0x0001, 0x9082], START + 4));
+    assert!(holds(&[0x0001, 0xC111], START + 4) && holds(&[0x0001, 0xC111], START + 6));
+    assert!(holds(&[0x0001, 0xA001], START + 2));
 }
 
 #[test]
@@ -337,6 +402,9 @@ fn order_of_refusals() {
     assert_eq!(first(1, 0, &[0x0073]), 3);
     assert_eq!(first(1, 0, &[0x0073, 0x0000]), 4);
     assert_eq!(first(1, 0, &ADDI), 5);
+    // A compressed halfword needs no second one, whoever executes it.
+    assert_eq!(first(1, 0, &[0x0001]), 5);
+    assert_eq!(first(1, 0, &[0x4108]), 5);
 }
 
 /// A helper end in full: arguments, the pair's address, and the earlier count where it is not 0.
@@ -365,13 +433,17 @@ fn helper_ends() {
         let request = Request::new(START, halfwords).helpers(helpers);
         translated(&request).unwrap().0
     };
-    let halfword = end(0x0001, START, helpers.halfword, &[]);
-    assert_eq!(bytes(&[0x0001])[32..], halfword);
+    let halfword = end(0x4108, START, helpers.halfword, &[]);
+    assert_eq!(bytes(&[0x4108])[32..], halfword);
     let load = end(0xFFF0_B083, START, helpers.memory, &[]);
     assert_eq!(bytes(&[0xB083, 0xFFF0])[32..], load);
     let earlier = [0x48, 0x81, 0xC2, 0x01, 0x00, 0x00, 0x00];
     let store = end(0x0000_3023, START + 4, helpers.memory, &earlier);
     assert_eq!(bytes(&[0x0093, 0x0050, 0x3023, 0x0000])[32 + 21..], store);
+    // Behind C.NOP: 109 bytes, and the helper's pc is two bytes on.
+    let halfword = end(0x4108, START + 2, helpers.halfword, &earlier);
+    assert_eq!(bytes(&[0x0001, 0x4108])[32 + 14..], halfword);
+    assert_eq!(bytes(&[0x0001, 0x4108]).len(), 109);
 }
 
 #[test]
@@ -442,7 +514,10 @@ fn values_that_a_reply_lacks() {
     assert_eq!(placed(1), (0, 4, 8, 0));
     // SAFETY: Any number may be passed to the first; the second takes none.
     let (kind, rules) = unsafe { (emuko_word_kind(0x0000_100F), emuko_rules()) };
-    assert_eq!((kind, rules), (2, 6));
+    assert_eq!((kind, rules), (2, 7));
+    // SAFETY: As above.
+    let words = [0x852E, 0x4108, 0x0000, 0x0093].map(|halfword| unsafe { emuko_expand(halfword) });
+    assert_eq!(words, [0x00B0_0533, 0, 0, 0]);
 }
 
 /// The numbers of the kinds, and a word of each.

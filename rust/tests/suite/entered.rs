@@ -7,6 +7,7 @@ use crate::manual::{Run, Turn};
 use crate::random::Random;
 use crate::requests;
 use crate::rest_of_m::{of_m, M};
+use crate::runs::{self, instructions};
 use crate::words;
 use emuko_original::{Answer, Emuko, Original};
 use emuko_x64_blocks::{
@@ -32,27 +33,32 @@ pub struct Seen {
     by_fence_i: u32,
     /// Words of M in the order of [`M`]: with operands as usual, with a second one of 0, and with those whose signed quotient overflows.
     of_m: [[u64; 3]; 13],
+    /// Compressed instructions in line, and blocks that stand at 2 modulo 4.
+    pub compressed: u64,
+    pub at_2_modulo_4: u32,
 }
 
 impl Seen {
-    /// Adds what a plain block of so many words has, which started with these registers.
+    /// Adds what a plain block of so many instructions has, which started with these registers.
     fn plain(&mut self, mut before: Run, halfwords: &[u16], added: u64, pc: u64) {
         self.instructions += added;
-        let last = word_at(halfwords, added as usize - 1);
+        self.at_2_modulo_4 += (before.pc % 4 == 2) as u32;
+        let block: Vec<_> = instructions(halfwords).take(added as usize).collect();
+        let (end, last) = block.last().map(|(at, word)| (at.end, *word)).unwrap();
         if last & 0x7F == 0x63 {
-            let next = before.pc.wrapping_add(4 * added);
+            let next = before.pc.wrapping_add(2 * end as u64);
             self.branches[(last >> 12 & 7) as usize][(pc != next) as usize] += 1;
         }
-        if is_fence_i(last) && halfwords.len() as u64 >= 2 * added + 2 {
+        if is_fence_i(last) && halfwords.len() >= end + 2 {
             self.by_fence_i += 1;
         }
-        for k in 0..added as usize {
-            let word = word_at(halfwords, k);
+        for (at, word) in block {
+            self.compressed += (at.len() == 1) as u64;
             if let Some(which) = of_m(word) {
                 let [a, b] = [word >> 15, word >> 20].map(|field| before.x[field as usize & 31]);
                 self.of_m[which][exception(word, a, b)] += 1;
             }
-            before.turn(1, &words::halves(word), GREATEST_BLOCK);
+            before.turn(1, &halfwords[at], GREATEST_BLOCK);
         }
     }
 }
@@ -70,16 +76,11 @@ fn exception(word: u32, a: u64, b: u64) -> usize {
     }
 }
 
-/// Word k of a run.
-fn word_at(halfwords: &[u16], k: usize) -> u32 {
-    u32::from(halfwords[2 * k + 1]) << 16 | u32::from(halfwords[2 * k])
-}
-
 /// A list of turns on both sides: the manual's run, and slots, pc and the sum of RDX over the blocks entered since the last helper block.
 pub struct List<'a> {
     pub machine: &'a mut Machine,
     run: Run,
-    pc: u64,
+    pub pc: u64,
     sum: u64,
 }
 
@@ -112,9 +113,14 @@ impl<'a> List<'a> {
         }
     }
 
-    /// One turn: refused on both sides, or a block that is entered, with what the manual says.
+    /// Gives a register this value, on both sides.
+    pub fn set(&mut self, register: usize, value: u64) {
+        self.machine.slots()[register] = value;
+        self.run.x[register] = value;
+    }
+
+    /// One turn over any code.
     fn turn(&mut self, r: &mut Random, seen: &mut Seen) {
-        seen.turns += 1;
         let limit = requests::limit(r);
         let halfwords = requests::run(r);
         let output = if r.percent(2) {
@@ -122,17 +128,32 @@ impl<'a> List<'a> {
         } else {
             GREATEST_BLOCK
         };
-        let request = Request::new(self.pc, &halfwords);
+        self.turn_over(limit, &halfwords, output, seen);
+    }
+
+    /// One turn over the code at the pc: refused on both sides, or a block that is entered, with what the manual says. The block's count and
+    /// span.
+    pub fn turn_over(
+        &mut self,
+        limit: u32,
+        halfwords: &[u16],
+        output: usize,
+        seen: &mut Seen,
+    ) -> Option<(usize, u64)> {
+        seen.turns += 1;
+        let request = Request::new(self.pc, halfwords);
         let request = request.limit(limit).helpers(helpers());
         let reply = translate(&request, &mut self.machine.out[..output]);
-        let turn = self.run.clone().turn(limit, &halfwords, output);
+        let turn = self.run.clone().turn(limit, halfwords, output);
         assert_eq!(reply.is_err(), turn == Turn::Refused, "{request:x?}");
         let Ok(block) = reply else {
             seen.refused += 1;
-            return;
+            return None;
         };
         let (length, count) = (block.bytes().len(), u64::from(block.count()));
-        self.enter(length, count, limit, &halfwords, seen);
+        let size = (block.count() as usize, block.span());
+        self.enter(length, count, limit, halfwords, seen);
+        Some(size)
     }
 
     /// Enters the block that stands at the front of `out`, of so many bytes for so many instructions, with what the manual says of the
@@ -169,7 +190,7 @@ impl<'a> List<'a> {
         assert_eq!(self.sum, self.run.count, "count: {request:x?}");
     }
 
-    /// A block that called its helper; how many words came before that one.
+    /// A block that called its helper; how many instructions came before that one.
     fn by_helper(
         &mut self,
         turn: Turn,
@@ -229,6 +250,8 @@ fn lists_of_turns() {
     assert!(seen.memory_helpers > 10_000, "{seen:?}");
     assert!(seen.instructions > 1_000_000, "{seen:?}");
     assert!(seen.by_fence_i > 5_000, "{seen:?}");
+    assert!(seen.compressed > 500_000, "{seen:?}");
+    assert!(seen.at_2_modulo_4 > 50_000, "{seen:?}");
     for funct3 in [0, 1, 4, 5, 6, 7] {
         let [not, taken] = seen.branches[funct3];
         assert!(not > 100 && taken > 100, "{seen:?}");
@@ -435,7 +458,8 @@ impl Keeping {
         let helpers = Helpers::new(store_word, store_word);
         let block = translate(&Request::new(pc, &run).helpers(helpers), &mut out).ok()?;
         let offset = self.store.place(block.bytes()).unwrap().offset;
-        if is_fence_i(word_at(&run, block.count() as usize - 1)) {
+        let last = runs::words(&run).nth(block.count() as usize - 1);
+        if last.is_some_and(is_fence_i) {
             self.by_fence_i.insert(offset);
         }
         let kept = NativeBlock::new(offset, &block);

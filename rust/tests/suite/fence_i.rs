@@ -3,7 +3,7 @@
 
 use crate::random::Random;
 use crate::requests;
-use crate::runs::{asked, words, END};
+use crate::runs::{asked, instructions, words, END};
 use emuko_original::{Answer, Emuko, Original, CODE_SIZE};
 
 /// By opcode and funct3, whatever the other fields.
@@ -11,24 +11,25 @@ pub fn is_fence_i(word: u32) -> bool {
     word & 0x7F == 0x0F && word >> 12 & 7 == 1
 }
 
-/// How many words lead to the first FENCE.I of a run, that word included. A compressed halfword ends every block, so none is sought
-/// behind one; one that stands behind another end is never met, and then the number does not matter.
-pub fn words_to_fence_i(halfwords: &[u16]) -> Option<usize> {
+/// How many instructions lead to the first FENCE.I of a run, that word included. A halfword that a helper executes ends every block, so
+/// none is sought behind one; one that stands behind another end is never met, and then the number does not matter.
+pub fn instructions_to_fence_i(halfwords: &[u16]) -> Option<usize> {
     let found = words(halfwords).position(is_fence_i);
     found.map(|before| before + 1)
 }
 
 /// The run up to its first FENCE.I, that word included, or all of it.
 pub fn cut(halfwords: &[u16]) -> &[u16] {
-    match words_to_fence_i(halfwords) {
-        Some(words) => &halfwords[..2 * words],
+    let found = instructions(halfwords).find(|(_, word)| is_fence_i(*word));
+    match found {
+        Some((at, _)) => &halfwords[..at.end],
         None => halfwords,
     }
 }
 
 /// The limit by which a block ends behind its first FENCE.I, if not before.
 pub fn limit_to_fence_i(halfwords: &[u16], limit: u32) -> u32 {
-    match words_to_fence_i(halfwords) {
+    match instructions_to_fence_i(halfwords) {
         Some(words) => limit.min(words as u32),
         None => limit,
     }
@@ -47,7 +48,7 @@ fn cut_where_met_and_where_not() {
             requests::start(&mut r),
             requests::limit(&mut r),
         );
-        let Some(words) = words_to_fence_i(&run) else {
+        let Some(words) = instructions_to_fence_i(&run) else {
             assert_eq!(cut(&run), run);
             continue;
         };
@@ -84,13 +85,18 @@ fn cut_by_hand() {
         cut(&run(&[&addi, &fence_i, &addi, &fence_i])),
         run(&[&addi, &fence_i])
     );
-    // Half of the word; FENCE, and funct3 2; behind a compressed halfword; in another word's upper half.
+    // Behind a compressed instruction, and two of them.
+    for nops in [&[0x0001][..], &[0x0001, 0x0001]] {
+        assert_eq!(cut(&run(&[nops, &fence_i, &addi])), run(&[nops, &fence_i]));
+    }
+    // Half of the word; FENCE, and funct3 2; behind a halfword that a helper executes; in another word's upper half.
     for whole in [
         vec![0x100F],
         run(&[&addi, &fence_i[..1]]),
         vec![0x000F, 0x1000, 0x200F, 0x0000],
-        run(&[&[0x0001], &fence_i]),
-        run(&[&[0x0001, 0x0001], &fence_i]),
+        run(&[&[0x4108], &fence_i]),
+        run(&[&[0x4108, 0x4108], &fence_i]),
+        run(&[&[0x0001, 0x4108], &fence_i]),
         vec![0x0093, 0x100F, 0x0013, 0x0000],
     ] {
         assert_eq!(cut(&whole), whole);

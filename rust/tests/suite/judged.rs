@@ -1,15 +1,16 @@
 //! The original Rust as the judge of a reply, where it and this crate are to do the same. It is asked for a run cut behind its first FENCE.I
-//! (module `fence_i`), with stand-ins for the words that one of the two takes and the other does not (modules `rest_of_m` and
-//! `reserved_jalr`).
+//! (module `fence_i`), with words in the place of compressed instructions (module `compressed`), and with stand-ins for the words that one of
+//! the two takes and the other does not (modules `rest_of_m` and `reserved_jalr`).
 
+use crate::compressed::{expanded, InPlace};
 use crate::fence_i::cut;
 use crate::reserved_jalr::{self, ECALL};
 use crate::rest_of_m::{self, put_bodies};
 use crate::runs::{replaced, words};
-use emuko_original::{Answer, Emuko, Original};
+use emuko_original::{Answer, Original};
 use std::borrow::Cow;
 
-/// The run with all stand-ins.
+/// The run with all stand-ins for words.
 pub fn with_stand_ins(halfwords: &[u16]) -> Cow<'_, [u16]> {
     replaced(halfwords, |word| {
         rest_of_m::stand_in(word).or(reserved_jalr::stand_in(word))
@@ -26,8 +27,15 @@ pub fn judged(
     helpers: [u64; 2],
     bytes: &mut Vec<u8>,
 ) -> Answer {
-    let run = with_stand_ins(cut(halfwords));
-    let answer = original.translate(start, limit, &run, helpers, bytes);
+    let halfwords = cut(halfwords);
+    let run = expanded(halfwords);
+    let in_place = InPlace {
+        start,
+        halfwords,
+        run: &with_stand_ins(&run),
+        helpers,
+    };
+    let answer = in_place.translated(original, limit, bytes);
     match answer {
         Answer::Block(count) => put_bodies(original, halfwords, count, bytes),
         Answer::NotTaken(ECALL) => return Answer::NotTaken(words(halfwords).next().unwrap()),

@@ -2,6 +2,7 @@
 //! and all is emptied now and then. Whatever entry is then in use has its span unchanged, is the block of the code as it is now, made for as
 //! many instructions, and does when it is entered what the manual's run of that code does, read for as many.
 
+use crate::compressed;
 use crate::drops::touches;
 use crate::entered::{List, Seen as Entered};
 use crate::index::{Key, SATP, START};
@@ -27,13 +28,16 @@ struct Code {
     bytes: Vec<u8>,
 }
 
-/// An instruction of any sort, as it stands in memory; a halfword with anything behind it.
+/// An instruction of any sort, as it stands in memory; two compressed ones; a halfword that ends a block, with anything behind it.
 fn instruction(r: &mut Random) -> [u8; 4] {
+    let two = |first: u16, second: u32| second << 16 | u32::from(first);
     let word = match r.below(24) {
         0 => words::ending(r),
         1 => words::memory(r),
         2 => words::not_taken(r),
-        3 => r.u32() << 16 | u32::from(words::halfword(r)),
+        3 => two(compressed::by_helper(r), r.u32()),
+        4 => two(compressed::ending(r), r.u32()),
+        5..=11 => two(compressed::straight(r), compressed::straight(r).into()),
         _ => words::straight(r),
     };
     word.to_le_bytes()
@@ -73,7 +77,7 @@ impl Code {
 
     /// An even address of the code, mostly that of an instruction.
     fn pc(&self, r: &mut Random) -> u64 {
-        let half = 2 * r.percent(10) as u64;
+        let half = 2 * r.percent(20) as u64;
         self.base
             .wrapping_add(4 * r.below(LENGTH as u64 / 4) + half)
     }
@@ -155,7 +159,7 @@ struct Seen {
     changed_behind: u32,
     taken_now: u32,
     left: u32,
-    /// Comparisons of blocks that a halfword's helper ends.
+    /// Comparisons of blocks with compressed instructions.
     halfwords: u32,
 }
 

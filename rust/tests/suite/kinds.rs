@@ -1,14 +1,15 @@
 //! The first word's kind: taken, not taken or by a helper, and the block's bytes, against the original Rust. Of the 2^32 words all
-//! values of opcode, funct3 and funct7 are tried with each register field at its limits, and every compressed halfword.
+//! values of opcode, funct3 and funct7 are tried with each register field at its limits, and every halfword.
 //! Of another kind than in the original are FENCE.I (request Q-1), the rest of M and JALR's opcode with funct3 1 to 7.
 
 use crate::against_original::{Comparison, Size};
+use crate::compressed::in_line;
 use crate::fence_i::is_fence_i;
 use crate::random::Random;
 use crate::reserved_jalr::is_reserved_jalr;
 use crate::rest_of_m::rest_of_m;
 use crate::words;
-use emuko_x64_blocks::{word_kind, Helpers, Refusal, Request, WordKind, GREATEST_BLOCK};
+use emuko_x64_blocks::{expansion, word_kind, Helpers, Refusal, Request, WordKind, GREATEST_BLOCK};
 
 const LIMITS: [u32; 5] = [0, 1, 15, 16, 31];
 const HELPERS: Helpers = Helpers {
@@ -143,32 +144,43 @@ fn no_words() {
     }
 }
 
-/// Every compressed halfword, alone and with a halfword behind it.
+/// What becomes of a halfword: the word that it is translated as is the table's, and of the kind that the original has for that word; none
+/// where a helper executes it, and where it is the first of a word.
+fn kind_of_halfword(comparison: &mut Comparison, low: u16) -> Option<WordKind> {
+    let word = expansion(low);
+    assert_eq!(word, in_line(low), "{low:04x}");
+    let kind = word_kind(word?);
+    assert_eq!(kind as u32, comparison.kind(word?), "{low:04x}");
+    Some(kind)
+}
+
+/// Every first halfword, alone and with a halfword behind it. How many are of each sort is counted by request Q-7.
 #[test]
 fn all_halfwords() {
     let mut comparison = Comparison::new(22);
-    let mut blocks = 0;
+    let (mut straight, mut ending, mut by_helper) = (0, 0, 0);
     for low in 0..=u16::MAX {
+        let kind = kind_of_halfword(&mut comparison, low);
         let run = [low, 0xFFFF];
         for run in [&run[..1], &run[..]] {
             let request = Request::new(0x8000_0000, run).helpers(HELPERS);
             let reply = comparison.reply(&request, GREATEST_BLOCK);
             if low & 3 != 3 {
-                assert_eq!(
-                    reply,
-                    Ok(Size {
-                        length: 88,
-                        count: 1,
-                        span: 2
-                    })
-                );
-                blocks += 1;
+                let Size { count, span, .. } = reply.unwrap();
+                assert_eq!((count, span), (1, 2), "{low:04x}");
             } else if run.len() == 1 {
                 assert_eq!(reply, Err(Refusal::MissingHalfword(1)));
             }
         }
+        match kind {
+            Some(WordKind::Straight) => straight += 1,
+            Some(WordKind::Ending) => ending += 1,
+            Some(kind) => panic!("{low:04x} {kind:?}"),
+            None => by_helper += (low & 3 != 3) as u32,
+        }
     }
-    assert_eq!(blocks, 2 * 3 * 16384);
+    assert_eq!((straight, ending), (16_088, 6_206));
+    assert_eq!(by_helper, 3 * 16_384 - 16_088 - 6_206);
 }
 
 /// Words with all fields random, at random starts.

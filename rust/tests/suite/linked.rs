@@ -2,15 +2,19 @@
 //! behind a call. FENCE.I ends its block in the linked one alone, so the original is given the run cut behind it or, where it fetches from
 //! memory, a limit by which it ends there too (module `fence_i`). The rest of M is taken by the linked one alone, and JALR with a reserved
 //! funct3 by the original alone, so the original is given stand-ins, and the bodies of the rest of M are put into its block (module
-//! `judged`). What it then does is all compared. Left out is what the original does behind a FENCE.I, at a word of the rest of M and at a
-//! reserved JALR, which the tests `behind_fence_i`, `at_div` and `at_a_reserved_jalr` show.
+//! `judged`). What it then does is all compared. Left out is what the original does behind a FENCE.I, at a word of the rest of M, at a
+//! reserved JALR and at a compressed instruction that is in line here, which the tests `behind_fence_i`, `at_div`, `at_a_reserved_jalr` and
+//! `at_a_compressed_instruction` show. Where the linked one's block has such a compressed instruction, its bytes are the judge's, and its
+//! accesses to memory are worked out by hand.
 
-use crate::fence_i::{cut, limit_to_fence_i, words_to_fence_i};
+use crate::compressed::{before_in_line, first_in_line};
+use crate::fence_i::{cut, instructions_to_fence_i, limit_to_fence_i};
 use crate::judged::{judged, with_stand_ins};
 use crate::random::Random;
 use crate::requests::{self, Wanted};
 use crate::reserved_jalr::{ends_block, first_reserved};
 use crate::rest_of_m::{first_of_the_rest, put_bodies};
+use crate::run::needed;
 use crate::spans;
 use crate::words;
 use emuko_original::{Access, Answer, Compiled, Emuko, Linked, Memory, Original, CODE_SIZE};
@@ -19,13 +23,16 @@ use std::process::Command;
 
 const HELPERS: [u64; 2] = [0x1122_3344_5566_7788, 0x99AA_BBCC_DDEE_FF00];
 
-/// The two emulators.
+/// The two emulators, and the original once more, which is asked without page tables.
 struct Both {
     original: Original,
     linked: Linked,
+    judge: Original,
     bytes: [Vec<u8>; 2],
     /// The mark of the linked one's store.
     mark: usize,
+    /// Whether the linked one has compiled what the original has not.
+    apart: bool,
 }
 
 impl Both {
@@ -33,13 +40,19 @@ impl Both {
         Both {
             original: Original::new(code_size),
             linked: Linked::new(code_size),
+            judge: Original::new(CODE_SIZE),
             bytes: [Vec::new(), Vec::new()],
             mark: 0,
+            apart: false,
         }
     }
 
-    /// Another address space, which empties stores and maps.
+    /// Another address space, which empties stores and maps. Where the two have come apart they begin anew, since their last access stays.
     fn set_satp(&mut self, satp: u64) {
+        if std::mem::take(&mut self.apart) {
+            self.original = Original::new(CODE_SIZE);
+            self.linked = Linked::new(CODE_SIZE);
+        }
         self.original.set_satp(satp);
         self.linked.set_satp(satp);
         self.mark = 0;
@@ -77,8 +90,7 @@ impl Both {
         (answer, linked)
     }
 
-    /// Both compile from a memory of their own, in which the same must have changed afterwards; what both have seen. The code at pc is
-    /// `run`, and the original goes no further than its first FENCE.I.
+    /// Both compile from a memory of their own; what is seen behind it. The code at pc, as far as it can be fetched, is `run`.
     fn compile(
         &mut self,
         memories: &Memories,
@@ -87,12 +99,30 @@ impl Both {
         limit: u32,
     ) -> (Compiled, Memories) {
         let mut after = memories.clone();
+        let compiled = self.linked.compile(&mut after.linked, pc, limit);
+        if has_in_line(&compiled, run) {
+            self.compare_block(&compiled, run, pc, limit);
+        } else {
+            self.compare_all(&compiled, memories, &mut after, run, pc, limit);
+        }
+        self.mark = compiled.used;
+        (compiled, after)
+    }
+
+    /// The original compiles from its memory, in which the same must have changed afterwards; it goes no further than the first FENCE.I.
+    fn compare_all(
+        &mut self,
+        compiled: &Compiled,
+        memories: &Memories,
+        after: &mut Memories,
+        run: &[u16],
+        pc: u64,
+        limit: u32,
+    ) {
         let until = limit_to_fence_i(run, limit);
         let expected = self.original.compile(&mut after.original, pc, until);
-        let compiled = self.linked.compile(&mut after.linked, pc, limit);
         let expected = self.with_bodies(expected, run);
-        self.mark = compiled.used;
-        assert_eq!(compiled, expected, "{pc:x} {limit}");
+        assert_eq!(*compiled, expected, "{pc:x} {limit}");
         assert_eq!(
             after.linked.accesses, after.original.accesses,
             "accesses, {pc:x} {limit}"
@@ -102,7 +132,23 @@ impl Both {
                 .eq(changes(&memories.original, &after.original)),
             "memory, {pc:x} {limit}"
         );
-        (compiled, after)
+    }
+
+    /// A block with compressed instructions, which the original does not compile from memory: it is the judge's, placed behind the mark and
+    /// found there.
+    fn compare_block(&mut self, compiled: &Compiled, run: &[u16], pc: u64, limit: u32) {
+        let [bytes, _] = &mut self.bytes;
+        let answer = judged(&mut self.judge, pc, limit, run, [0, 0], bytes);
+        let Answer::Block(count) = answer else {
+            panic!("{answer:?}: {run:x?} {limit}");
+        };
+        let offset = self.mark.next_multiple_of(4);
+        assert_eq!(compiled.result, Ok(Some((offset, count))), "{run:x?}");
+        assert_eq!(compiled.found, Some((offset, count)));
+        assert!(compiled.bytes == *bytes, "{run:x?} {limit}");
+        assert_eq!(compiled.used, offset + bytes.len());
+        assert!(compiled.enabled && !compiled.failed);
+        self.apart = true;
     }
 
     /// What the original has compiled of a run with stand-ins, bodies put in: the block's bytes, and where it then stands and ends.
@@ -118,6 +164,14 @@ impl Both {
             expected.used = offset + expected.bytes.len();
         }
         expected
+    }
+}
+
+/// Whether a block of this run has a compressed instruction in line.
+fn has_in_line(compiled: &Compiled, run: &[u16]) -> bool {
+    match compiled.result {
+        Ok(Some((_, count))) => first_in_line(run).is_some_and(|first| first < count as usize),
+        _ => false,
     }
 }
 
@@ -196,7 +250,7 @@ fn corpus_translation(wanted: &Wanted, both: &mut Both) -> String {
     }
 }
 
-/// The 3,400 requests that came with the original, and 275 more, which the program replay is run on too; behind them stand lines that are
+/// The 3,400 requests that came with the original, and 465 more, which the program replay is run on too; behind them stand lines that are
 /// no requests.
 #[test]
 fn corpus() {
@@ -210,7 +264,7 @@ fn corpus() {
         assert_eq!(corpus_reply(request, &mut both), reply, "{request}");
         kinds["TPD".find(&request[..1]).unwrap()] += 1;
     }
-    assert_eq!(kinds, [3414, 201, 60]);
+    assert_eq!(kinds, [3604, 201, 60]);
 }
 
 #[test]
@@ -321,62 +375,87 @@ fn fetches(memory: &Memory) -> Vec<u64> {
     accesses.iter().filter_map(fetched).collect()
 }
 
-/// Each sort of end of a run, and how many halfwords of it are needed.
-fn ends() -> Vec<(Vec<u16>, usize)> {
-    vec![
-        (vec![0x006F, 0x0000], 2), // JAL x0, 0
-        (vec![0x100F, 0x0000], 2), // FENCE.I
-        (vec![0xB083, 0x0000], 2), // LD x1, 0(x1)
-        (vec![0xC1B3, 0x4020], 2), // funct7 0x20 on funct3 4 of OP: not taken
-        (vec![0x0001], 1),         // C.NOP
-    ]
+/// As much of a run at `offset` of the first page as can be fetched.
+fn fetchable(run: &[u16], offset: u64, next: Next) -> &[u16] {
+    let before = ((PAGE - offset) / 2) as usize;
+    match next {
+        Next::Mapped | Next::Accessed => run,
+        _ => &run[..before.min(run.len())],
+    }
 }
 
-/// A block that needs so many halfwords, of which so many stand before the end of the page. What has to be seen is worked out by hand.
-fn around_one_end(both: &mut Both, run: &[u16], needed: u64, before: u64, next: Next) {
-    both.set_satp(SATP);
-    let offset = PAGE - 2 * before;
-    let memories = Memories::with(run, |run| paged(run, offset, next));
-    let (compiled, after) = both.compile(&memories, run, CODE + offset, 64);
-    let after = after.linked;
+/// The physical address of halfword k of code at `offset` of the first page.
+fn physical(offset: u64, k: u64, next: Next) -> u64 {
+    match (offset + 2 * k).checked_sub(PAGE) {
+        None => FIRST + offset + 2 * k,
+        Some(into) if next == Next::NoMemory => BASE + LENGTH as u64 + into,
+        Some(into) => SECOND + into,
+    }
+}
+
+/// What has to be seen of the accesses of a block at `offset` of the first page that needs so many halfwords: worked out by hand.
+fn compare_accesses(compiled: &Compiled, after: &Memory, offset: u64, needed: u64, next: Next) {
+    let before = (PAGE - offset) / 2;
     let crosses = before < needed;
     let stops = crosses && !matches!(next, Next::Mapped | Next::Accessed);
-    assert!(accessed(&after, 0));
+    assert_eq!(accessed(after, 0), before > 0);
     let sets = crosses && matches!(next, Next::Mapped | Next::NoMemory);
-    assert_eq!(accessed(&after, 1), sets || next == Next::Accessed);
+    assert_eq!(accessed(after, 1), sets || next == Next::Accessed);
+    let asked = if stops { before + 1 } else { needed };
     // Where the page has no memory the bus is asked, and traps; of the others that stop it is not.
-    let fetched = match (stops, next) {
-        (false, _) => needed,
-        (true, Next::NoMemory) => before + 1,
-        (true, _) => before,
-    };
-    assert_eq!(fetches(&after).len() as u64, fetched);
-    let last = if stops { before } else { needed - 1 };
-    let access = format!("Some((Fetch, {}, 2))", CODE + offset + 2 * last);
+    let fetched = asked - (stops && next != Next::NoMemory) as u64;
+    let expected = (0..fetched).map(|k| physical(offset, k, next));
+    assert!(fetches(after).into_iter().eq(expected));
+    let access = format!("Some((Fetch, {}, 2))", CODE + offset + 2 * (asked - 1));
     assert_eq!(compiled.last_access, access);
 }
 
-/// Blocks of one to three words that end before, at and across the end of a page, whatever the next page is.
+/// Each sort of end of a run, all of whose halfwords are needed.
+fn ends() -> [Vec<u16>; 6] {
+    [
+        vec![0x006F, 0x0000], // JAL x0, 0
+        vec![0x100F, 0x0000], // FENCE.I
+        vec![0xB083, 0x0000], // LD x1, 0(x1)
+        vec![0xC1B3, 0x4020], // funct7 0x20 on funct3 4 of OP: not taken
+        vec![0x4108],         // C.LW a0, 0(a0)
+        vec![0x8082],         // C.JR ra
+    ]
+}
+
+/// Blocks of one to four instructions that end before, at and across the end of a page, whatever the next page is.
 #[test]
 fn around_the_end_of_a_page() {
-    let straight = [0x0093, 0x0050, 0xC1B3, 0x0220]; // ADDI x1, x0, 5; DIV x3, x1, x2
+    // ADDI x1, x0, 5; DIV x3, x1, x2; C.NOP; C.MV a0, a1
+    let (addi, div, nop, mv) = ([0x0093, 0x0050], [0xC1B3, 0x0220], [0x0001], [0x852E]);
+    let fronts: [&[&[u16]]; 6] = [
+        &[],
+        &[&addi],
+        &[&addi, &div],
+        &[&nop],
+        &[&nop, &addi],
+        &[&addi, &mv, &nop],
+    ];
     let mut cases = 0;
     for next in NEXT {
         let mut both = Both::new(CODE_SIZE);
-        for words in 0..3 {
-            for (end, needed) in ends() {
-                let mut run = straight[..2 * words].to_vec();
-                run.extend(end);
-                let needed = (2 * words + needed) as u64;
-                // The page ends behind so many of the run's halfwords, or far behind it.
-                for before in (1..=needed + 2).chain([100]) {
-                    around_one_end(&mut both, &run, needed, before, next);
-                    cases += 1;
-                }
+        for (front, end) in fronts.into_iter().flat_map(|f| ends().map(|end| (f, end))) {
+            let run = [front.concat(), end].concat();
+            let needed = run.len() as u64;
+            // The page ends behind so many of the run's halfwords, or far behind it.
+            for before in (1..=needed + 2).chain([100]) {
+                both.set_satp(SATP);
+                let offset = PAGE - 2 * before;
+                let memories = Memories::with(&run, |run| paged(run, offset, next));
+                let code = fetchable(&run, offset, next);
+                let (compiled, after) = both.compile(&memories, code, CODE + offset, 64);
+                compare_accesses(&compiled, &after.linked, offset, needed, next);
+                cases += 1;
             }
         }
     }
-    assert_eq!(cases, 5 * (4 * (5 + 7 + 9) + 4 + 6 + 8));
+    let halfwords = [0, 2, 4, 1, 3, 4];
+    let of_a_front = |front: u32| 4 * (front + 2 + 3) + 2 * (front + 1 + 3);
+    assert_eq!(cases, 5 * halfwords.map(of_a_front).iter().sum::<u32>());
 }
 
 /// The trap of a fetch in the first instruction is the call's; a later one ends the block.
@@ -424,6 +503,8 @@ struct Seen {
     of_the_rest: u32,
     /// A reserved JALR as the first word, by which the pc is failed, and where it ends a block.
     reserved_jalr: [u32; 2],
+    /// Blocks with compressed instructions in line, and those of them for which the next page is looked at.
+    in_line: [u32; 2],
 }
 
 impl Seen {
@@ -432,7 +513,7 @@ impl Seen {
             Ok(Some((_, count))) => {
                 let count = count as usize;
                 self.blocks += 1;
-                self.by_fence_i += (words_to_fence_i(run) == Some(count)) as u32;
+                self.by_fence_i += (instructions_to_fence_i(run) == Some(count)) as u32;
                 let met = first_of_the_rest(run).is_some_and(|first| first < count);
                 self.of_the_rest += met as u32;
                 self.reserved_jalr[1] += ends_block(run, count, limit) as u32;
@@ -456,18 +537,24 @@ fn random_pages() {
     for _ in 0..20_000 {
         let mut run = requests::run(&mut r);
         run.truncate(200);
-        // The memory behind a run is zeros, by which its last word can be whole.
-        run.resize(run.len().next_multiple_of(2), 0);
+        // The memory behind a run is zeros, by which its last word can be whole, and which a helper executes.
+        run.extend([0, 0]);
         let offset = PAGE - 2 * r.below(80);
         let next = r.one_of(&NEXT);
         let limit = requests::limit(&mut r);
         both.set_satp(SATP);
         let mut memories = Memories::with(&run, |run| paged(run, offset, next));
         let pc = CODE + offset + r.percent(3) as u64;
+        let code = fetchable(&run, offset, next);
         for _ in 0..1 + r.below(2) {
             let compiled;
-            (compiled, memories) = both.compile(&memories, &run, pc, limit);
-            seen.add(&compiled, &run, limit, &memories.linked);
+            (compiled, memories) = both.compile(&memories, code, pc, limit);
+            seen.add(&compiled, code, limit, &memories.linked);
+            if has_in_line(&compiled, code) {
+                let needed = needed(code, limit) as u64;
+                compare_accesses(&compiled, &memories.linked, offset, needed, next);
+                seen.in_line[(offset + 2 * needed > PAGE) as usize] += 1;
+            }
             memories.forget_accesses();
         }
     }
@@ -479,6 +566,7 @@ fn random_pages() {
         "{seen:?}"
     );
     assert!(seen.reserved_jalr.iter().all(|n| *n > 20), "{seen:?}");
+    assert!(seen.in_line.iter().all(|n| *n > 1_000), "{seen:?}");
 }
 
 /// What one of them compiles at the end of a page, the next one being mapped, and the memory behind it.
@@ -546,6 +634,22 @@ fn at_a_reserved_jalr() {
     }
 }
 
+/// Two times C.NOP are the last halfwords of a page, and ADDI is the first word of the next. The original hands the first to a helper and
+/// leaves all else alone; the linked one has the three in its block.
+#[test]
+fn at_a_compressed_instruction() {
+    let run = [0x0001, 0x0001, 0x0093, 0x0050, 0x0073, 0x0000];
+    let (original, memory) = at_the_end_of_a_page::<Original>(&run);
+    assert_eq!((original.result, original.used), (Ok(Some((0, 1))), 88));
+    assert_eq!(fetches(&memory).len(), 1);
+    assert!(!accessed(&memory, 1));
+    let (linked, memory) = at_the_end_of_a_page::<Linked>(&run);
+    assert_eq!(linked.result, Ok(Some((0, 3))));
+    assert_eq!(linked.used, 67 + 14 + 14 + 21);
+    assert_eq!(fetches(&memory).len(), 6);
+    assert!(accessed(&memory, 1));
+}
+
 /// Nothing is fetched, and the last access stays, where the limit is 0, the pc is odd or the translator is not enabled.
 #[test]
 fn nothing_fetched() {
@@ -593,8 +697,9 @@ fn traced() {
         emuko.set_trace(true);
         let mut r = Random::new(42);
         for _ in 0..200 {
-            // Words are traced with their numbers, so that both must be given the same ones.
-            let run = with_stand_ins(&requests::run(&mut r)).into_owned();
+            // Instructions are traced with their numbers, so that both must be given the same ones.
+            let run = requests::run(&mut r);
+            let run = with_stand_ins(before_in_line(&run));
             let start = requests::start(&mut r);
             let limit = requests::limit(&mut r);
             emuko.translate(start, limit, seen(&run), HELPERS, &mut Vec::new());
@@ -605,23 +710,32 @@ fn traced() {
     match std::env::var("EMUKO_TRACED").as_deref() {
         Ok("original") => trace::<Original>(cut),
         Ok("linked") => trace::<Linked>(|run| run),
+        Ok("compressed") => {
+            let mut linked = Linked::new(CODE_SIZE);
+            linked.set_trace(true);
+            // C.NOP; ADDI x1, x0, 5; C.MV a0, a1; C.LW a0, 0(a0)
+            let run = [0x0001, 0x0093, 0x0050, 0x852E, 0x4108, 0x0001];
+            linked.translate(BASE, 64, &run, HELPERS, &mut Vec::new());
+        }
         _ => {}
     }
 }
 
+/// What `traced` prints.
+fn traced_by(which: &str) -> String {
+    let output = Command::new(std::env::current_exe().unwrap())
+        .args(["--exact", "linked::traced", "--ignored", "--nocapture"])
+        .env("EMUKO_TRACED", which)
+        .output()
+        .unwrap();
+    assert!(output.status.success());
+    String::from_utf8(output.stderr).unwrap()
+}
+
 #[test]
 fn traces() {
-    let traced = |which: &str| {
-        let output = Command::new(std::env::current_exe().unwrap())
-            .args(["--exact", "linked::traced", "--ignored", "--nocapture"])
-            .env("EMUKO_TRACED", which)
-            .output()
-            .unwrap();
-        assert!(output.status.success());
-        String::from_utf8(output.stderr).unwrap()
-    };
-    let original = traced("original");
-    assert_eq!(traced("linked"), original);
+    let original = traced_by("original");
+    assert_eq!(traced_by("linked"), original);
     let lines = [
         "jit-x64: compile-enter",
         "fetch-trap=",
@@ -633,4 +747,21 @@ fn traces() {
     for line in lines {
         assert!(original.contains(line), "{line}");
     }
+}
+
+/// Instructions of two and of four bytes, with their numbers and where they stand.
+#[test]
+fn traces_of_compressed_instructions() {
+    let traced = traced_by("compressed");
+    let lines: Vec<&str> = traced
+        .lines()
+        .filter(|line| line.contains("   pc="))
+        .collect();
+    let expected = [
+        "  jit-x64:   pc=0x0000000080000000 c16=0x0001 halfword 1",
+        "  jit-x64:   pc=0x0000000080000002 i32=0x00500093 word 5243027",
+        "  jit-x64:   pc=0x0000000080000006 c16=0x852e halfword 34094",
+        "  jit-x64:   pc=0x0000000080000008 c16=0x4108 halfword 16648",
+    ];
+    assert_eq!(lines, expected);
 }

@@ -11,12 +11,15 @@ mod against_original;
 mod archive;
 mod buckets;
 mod cases;
+mod compressed;
 mod drops;
 #[cfg(all(target_arch = "x86_64", target_os = "linux"))]
 mod entered;
 #[cfg(all(target_arch = "x86_64", target_os = "linux"))]
 mod entered_m;
 mod fence_i;
+#[cfg(all(target_arch = "x86_64", target_os = "linux"))]
+mod guests;
 mod in_c;
 mod index;
 mod index_random;

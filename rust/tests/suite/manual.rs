@@ -1,5 +1,7 @@
-//! The RISC-V Unprivileged manual as a plain interpreter, for the words that document 01 and request Q-2 take, and document 01's run of
-//! turns over it. It knows nothing of blocks or of the host.
+//! The RISC-V Unprivileged manual as a plain interpreter, for the words that document 01 and request Q-2 take and the compressed ones of
+//! request Q-7, and document 01's run of turns over it. It knows nothing of blocks or of the host.
+
+use crate::compressed::in_line;
 
 #[derive(Clone, Copy, Debug, PartialEq, Eq)]
 enum Name {
@@ -346,20 +348,22 @@ impl Run {
     }
 
     /// The link goes to rd, and the pc to the target.
-    fn jump(&mut self, rd: usize, target: u64) -> Step {
-        self.set(rd, self.pc.wrapping_add(4));
+    fn jump(&mut self, rd: usize, link: u64, target: u64) -> Step {
+        self.set(rd, link);
         self.pc = target;
         Step::Ends
     }
 
-    fn step(&mut self, word: u32) -> Step {
+    /// An instruction of so many bytes. Chapter C has each compressed one "expand into a single 32-bit instruction"; "C.JALR ... writes the
+    /// address of the instruction following the jump (pc+2)".
+    fn step(&mut self, word: u32, size: u64) -> Step {
         let Some(name) = name(word) else {
             return Step::NotTaken;
         };
         let rd = bits(word, 11, 7) as usize;
         let a = self.x[bits(word, 19, 15) as usize];
         let b = self.x[bits(word, 24, 20) as usize];
-        let next = self.pc.wrapping_add(4);
+        let next = self.pc.wrapping_add(size);
         if let Some(taken) = branches(name, a, b) {
             let target = self.pc.wrapping_add(immediate_b(word));
             self.pc = if taken { target } else { next };
@@ -367,8 +371,8 @@ impl Run {
         }
         match name {
             Name::Load | Name::Store => return Step::ByHelper,
-            Name::Jal => return self.jump(rd, self.pc.wrapping_add(immediate_j(word))),
-            Name::Jalr => return self.jump(rd, a.wrapping_add(immediate_i(word)) & !1),
+            Name::Jal => return self.jump(rd, next, self.pc.wrapping_add(immediate_j(word))),
+            Name::Jalr => return self.jump(rd, next, a.wrapping_add(immediate_i(word)) & !1),
             // "a subsequent instruction fetch on a RISC-V hart will see any previous data stores": what stands behind it is the next
             // turn's, fetched then.
             Name::FenceI => {
@@ -390,25 +394,25 @@ impl Run {
             return Turn::Refused;
         }
         let mut added = 0;
-        for k in (0..).step_by(2).take(limit.min(64) as usize) {
-            let Some(&low) = halfwords.get(k) else {
-                break;
-            };
-            let by_helper = |instruction| Turn::Helper {
+        let mut rest = halfwords;
+        for _ in 0..limit.min(64) {
+            let by_helper = |instruction, compressed| Turn::Helper {
                 added,
                 instruction,
-                compressed: low & 3 != 3,
+                compressed,
             };
-            if low & 3 != 3 {
-                return by_helper(low as u32);
-            }
-            let Some(&high) = halfwords.get(k + 1) else {
-                break;
+            let (word, length) = match *rest {
+                [low, ..] if low & 3 != 3 => match in_line(low) {
+                    Some(word) => (word, 1),
+                    None => return by_helper(low as u32, true),
+                },
+                [low, high, ..] => ((high as u32) << 16 | low as u32, 2),
+                _ => break,
             };
-            let word = (high as u32) << 16 | low as u32;
-            match self.step(word) {
+            rest = &rest[length..];
+            match self.step(word, 2 * length as u64) {
                 Step::NotTaken => break,
-                Step::ByHelper => return by_helper(word),
+                Step::ByHelper => return by_helper(word, false),
                 Step::Ends => {
                     added += 1;
                     break;
@@ -480,6 +484,43 @@ fn by_hand() {
     assert_eq!(run(0xFFF0_819B, 0x1_0000_0000, 0).0, minus(1));
     // SUB
     assert_eq!(run(0x4020_81B3, 3, 5).0, minus(2));
+}
+
+/// Compressed instructions at 0x1000: the next pc is two bytes on, and so is what is linked to; a load is the helper's.
+#[test]
+fn compressed_by_hand() {
+    let turn = |halfwords: &[u16]| {
+        let mut run = Run {
+            x: [0; 32],
+            pc: 0x1000,
+            count: 0,
+        };
+        run.x[1] = 0x2001;
+        let turn = run.turn(64, halfwords, 4099);
+        (turn, run)
+    };
+    // C.LI a0, -1; ADDI x3, x3, 1; C.MV a1, a0
+    let (plain, run) = turn(&[0x557D, 0x8193, 0x0011, 0x85AA]);
+    assert_eq!((plain, run.pc), (Turn::Plain { added: 3 }, 0x1008));
+    assert_eq!(run.x[3..12], [1, 0, 0, 0, 0, 0, 0, u64::MAX, u64::MAX]);
+    // C.JALR ra behind C.NOP; C.BEQZ a0, 4 and C.BNEZ a0, 4; C.J -2
+    let (plain, run) = turn(&[0x0001, 0x9082, 0x0001]);
+    assert_eq!((plain, run.pc), (Turn::Plain { added: 2 }, 0x2000));
+    assert_eq!(run.x[1], 0x1004);
+    assert_eq!(turn(&[0x0001, 0xC111]).1.pc, 0x1006);
+    assert_eq!(turn(&[0x0001, 0xE111]).1.pc, 0x1004);
+    assert_eq!(turn(&[0xBFFD]).1.pc, 0x0FFE);
+    // C.LW a0, 0(a0) behind C.NOP
+    let helper = Turn::Helper {
+        added: 1,
+        instruction: 0x4108,
+        compressed: true,
+    };
+    let (by_helper, run) = turn(&[0x0001, 0x4108]);
+    assert_eq!((by_helper, run.pc), (helper, 0x1002));
+    // Half a word behind it.
+    assert_eq!(turn(&[0x0001, 0x0093]).0, Turn::Plain { added: 1 });
+    assert_eq!(turn(&[0x0093]).0, Turn::Refused);
 }
 
 /// ADDI x3, x3, 1 behind a fence: FENCE goes on to it, FENCE.I ends its turn.

@@ -1,6 +1,8 @@
 //! Random requests, and outputs whose bytes tell where they stand.
 
+use crate::compressed;
 use crate::random::Random;
+use crate::runs::instructions;
 use crate::words;
 use emuko_x64_blocks::{Helpers, Request, GREATEST_BLOCK};
 
@@ -46,11 +48,14 @@ impl Wanted {
     }
 }
 
-/// A run of halfwords: straight words, then an end of any sort; some with a FENCE.I between the words.
+/// A run of halfwords: straight words, compressed ones among them in some, then an end of any sort; some with a FENCE.I between the
+/// instructions.
 pub fn run(r: &mut Random) -> Vec<u16> {
     let mut run = run_to_an_end(r);
     if r.percent(15) {
-        let at = 2 * r.below(run.len() as u64 / 2 + 1) as usize;
+        let before = r.below(instructions(&run).count() as u64 + 1) as usize;
+        let last = instructions(&run).take(before).last();
+        let at = last.map_or(0, |(at, _)| at.end);
         run.splice(at..at, words::halves(words::fence_i(r)));
     }
     run
@@ -67,6 +72,7 @@ fn run_to_an_end(r: &mut Random) -> Vec<u16> {
         }
         2 => the_same_word(r),
         3 => the_rest_of_m(r),
+        4..=9 => mixed(r),
         _ => straight_words(r),
     };
     end(r, &mut run);
@@ -116,15 +122,30 @@ fn straight_words(r: &mut Random) -> Vec<u16> {
         .collect()
 }
 
+/// Straight words and compressed instructions, few of these, most or all.
+fn mixed(r: &mut Random) -> Vec<u16> {
+    let (longest, chances) = (r.one_of(&[2, 8, 16, 66, 70]), r.one_of(&[10, 50, 90, 100]));
+    let mut run = Vec::new();
+    for _ in 0..r.below(longest) {
+        if r.percent(chances) {
+            run.push(compressed::straight(r));
+        } else {
+            run.extend(words::halves(words::straight(r)));
+        }
+    }
+    run
+}
+
 /// What stands behind straight words.
 fn end(r: &mut Random, run: &mut Vec<u16>) {
-    match r.below(12) {
+    match r.below(14) {
         0..=2 => run.extend(words::halves(words::ending(r))),
         3..=4 => run.extend(words::halves(words::memory(r))),
-        5..=6 => run.push(words::halfword(r)),
+        5..=6 => run.push(compressed::by_helper(r)),
         7..=8 => run.extend(words::halves(words::not_taken(r))),
         // A word without its second halfword.
         9 => run.push(r.u32() as u16 | 3),
+        10..=11 => run.push(compressed::ending(r)),
         _ => {}
     }
 }

@@ -71,28 +71,33 @@ fn stand_ins_where_met_and_where_not() {
     }
 }
 
-/// An index made before request Q-6 shows the original's block for such a word, and is therefore emptied once; then the word is refused.
-#[test]
-fn an_index_made_before() {
-    let (pc, run) = (0x8000_0000, halves(0x0000_9067));
-    let (answer, bytes) = asked(&mut Original::new(CODE_SIZE), pc, 64, &run);
-    assert_eq!((answer, bytes.len()), (Answer::Block(1), 81));
+/// An index made by the original shows its block of one instruction, of this length; emptied, it shows none.
+pub fn emptied_once(pc: u64, run: &[u16], length: usize) {
+    let (answer, bytes) = asked(&mut Original::new(CODE_SIZE), pc, 64, run);
+    assert_eq!((answer, bytes.len()), (Answer::Block(1), length));
     let mut store = CodeStore::new([0; GREATEST_BLOCK]);
     let mut index = BlockIndex::new([Entry::default()]);
     let kept = NativeBlock {
         offset: store.place(&bytes).unwrap().offset,
         count: 1,
-        length: 81,
-        span: 4,
+        length,
+        span: 2 * run.len() as u64,
     };
     index.insert(0, pc, kept).unwrap();
     assert_eq!(index.find(0, pc).map(|entry| entry.block), Some(kept));
     index.empty(&mut store);
     assert_eq!((index.find(0, pc), store.mark()), (None, 0));
+}
+
+/// An index made before request Q-6 shows the original's block for such a word, and is therefore emptied once; then the word is refused.
+#[test]
+fn an_index_made_before() {
+    let (pc, run) = (0x8000_0000, halves(0x0000_9067));
+    emptied_once(pc, &run, 81);
     let mut out = [0; GREATEST_BLOCK];
     let refused = translate(&Request::new(pc, &run), &mut out).unwrap_err();
     assert_eq!(refused, Refusal::NotTaken(0x0000_9067));
-    assert_eq!(rules(), 6);
+    assert_eq!(rules(), 7);
 }
 
 /// Stand-ins by hand.
@@ -114,9 +119,13 @@ fn stand_ins_by_hand() {
         assert_eq!(*replaced(&reserved, stand_in), ecall);
         let behind = run(&[&addi, &reserved, &addi]);
         assert_eq!(*replaced(&behind, stand_in), run(&[&addi, &ecall, &addi]));
-        // Behind a compressed halfword; in two words' halves; half a word.
+        // Behind a compressed instruction.
+        let nop = [0x0001];
+        let behind = run(&[&nop, &reserved]);
+        assert_eq!(*replaced(&behind, stand_in), run(&[&nop, &ecall]));
+        // Behind a halfword that a helper executes; in two words' halves; half a word.
         for whole in [
-            run(&[&[0x0001, 0x0001], &reserved]),
+            run(&[&[0x4108, 0x4108], &reserved]),
             run(&[&[0x0093], &reserved, &[0x0000]]),
             run(&[&addi, &reserved[..1]]),
         ] {

@@ -264,6 +264,11 @@ fn stand_ins_by_hand() {
         *replaced(&run(&[&addi, &mulh]), stand_in),
         run(&[&addi, &add])
     );
+    let nop = [0x0001];
+    assert_eq!(
+        *replaced(&run(&[&nop, &mulh]), stand_in),
+        run(&[&nop, &add])
+    );
     // REMUW x31, x30, x29; DIVW x0, x0, x0
     assert_eq!(
         *replaced(&halves(0x03DF_7FBB), stand_in),
@@ -273,7 +278,8 @@ fn stand_ins_by_hand() {
         *replaced(&halves(0x0200_403B), stand_in),
         halves(0x0000_0033)
     );
-    // MUL, MULW; OP_32 with funct3 1, 2, 3; funct7 0, 2 and 0x21; behind a compressed halfword; in two words' halves; half a word.
+    // MUL, MULW; OP_32 with funct3 1, 2, 3; funct7 0, 2 and 0x21; behind a halfword that a helper executes; in two words' halves; half a
+    // word.
     for whole in [
         halves(0x0220_81B3).to_vec(),
         halves(0x0220_81BB).to_vec(),
@@ -283,7 +289,7 @@ fn stand_ins_by_hand() {
         halves(0x0020_C1B3).to_vec(),
         halves(0x0420_C1B3).to_vec(),
         halves(0x4220_C1B3).to_vec(),
-        run(&[&[0x0001, 0x0001], &mulh]),
+        run(&[&[0x4108, 0x4108], &mulh]),
         run(&[&[0x0093], &mulh, &[0x0000]]),
         run(&[&addi, &mulh[..1]]),
     ] {

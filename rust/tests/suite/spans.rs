@@ -29,7 +29,8 @@ const LD: [u16; 2] = [0xB083, 0x0000];
 const SD: [u16; 2] = [0x3023, 0x0000];
 const JAL: [u16; 2] = [0x006F, 0x0000];
 const FENCE_I: [u16; 2] = [0x100F, 0x0000];
-const HALFWORD: [u16; 1] = [0x0001];
+/// C.NOP, which is in line, and C.LW, which a helper executes.
+const HALFWORDS: [[u16; 1]; 2] = [[0x0001], [0x4108]];
 
 /// Words that are not taken: a branch with funct3 2, OP with funct7 0x20 and funct3 4, ECALL, and JALR with funct3 1.
 const NOT_TAKEN: [[u16; 2]; 4] = [
@@ -43,23 +44,32 @@ const NOT_TAKEN: [[u16; 2]; 4] = [
 #[test]
 fn by_hand() {
     let span = |parts: &[&[u16]]| spanned(&Request::new(START, &parts.concat())).unwrap();
-    assert_eq!(span(&[&ADDI, &HALFWORD]), (2, 6));
     assert_eq!(span(&[&ADDI, &LD]), (2, 8));
     assert_eq!(span(&[&ADDI, &NOT_TAKEN[0]]), (1, 4));
     assert_eq!(span(&[&ADDI.repeat(64)]), (64, 256));
     assert_eq!(span(&[&ADDI.repeat(65)]), (64, 256));
     // One alone, with anything behind it.
-    assert_eq!(span(&[&HALFWORD]), (1, 2));
-    assert_eq!(span(&[&HALFWORD, &ADDI]), (1, 2));
     for last in [LD, SD, JAL, FENCE_I] {
         assert_eq!(span(&[&last]), (1, 4));
         assert_eq!(span(&[&last, &ADDI]), (1, 4));
-        assert_eq!(span(&[&ADDI, &last, &HALFWORD]), (2, 8));
+        assert_eq!(span(&[&ADDI, &last, &HALFWORDS[0]]), (2, 8));
         assert_eq!(span(&[&ADDI.repeat(63), &last]), (64, MOST_SPAN));
         assert_eq!(span(&[&ADDI.repeat(64), &last]), (64, MOST_SPAN));
     }
-    assert_eq!(span(&[&ADDI.repeat(63), &HALFWORD]), (64, 254));
-    assert_eq!(span(&[&ADDI.repeat(64), &HALFWORD]), (64, 256));
+    for halfword in HALFWORDS {
+        assert_eq!(span(&[&halfword]), (1, 2));
+        assert_eq!(span(&[&ADDI, &halfword]), (2, 6));
+        assert_eq!(span(&[&ADDI.repeat(63), &halfword]), (64, 254));
+        assert_eq!(span(&[&ADDI.repeat(64), &halfword]), (64, 256));
+    }
+    // Behind C.NOP the block goes on, behind C.LW and C.JR ra it does not; sixty-four halfwords, and more of them.
+    assert_eq!(span(&[&HALFWORDS[0], &ADDI]), (2, 6));
+    assert_eq!(span(&[&HALFWORDS[1], &ADDI]), (1, 2));
+    assert_eq!(span(&[&HALFWORDS.concat()]), (2, 4));
+    assert_eq!(span(&[&[0x8082], &ADDI]), (1, 2));
+    assert_eq!(span(&[&HALFWORDS[0].repeat(64)]), (64, MOST_SPAN / 2));
+    assert_eq!(span(&[&HALFWORDS[0].repeat(70)]), (64, MOST_SPAN / 2));
+    assert_eq!(span(&[&[0x0001, 0x0093, 0x0050].repeat(32)]), (64, 192));
     // Not counted and not spanned, although the first two leave loads in the block; half a word; nothing.
     for word in NOT_TAKEN {
         assert_eq!(span(&[&ADDI, &ADDI, &word, &ADDI]), (2, 8));
@@ -72,7 +82,7 @@ fn by_hand() {
 /// The limit ends the span with the block; where the run stands does not matter, also across the end of addresses.
 #[test]
 fn limits_and_starts() {
-    let run = [&ADDI.repeat(3)[..], &HALFWORD].concat();
+    let run = [&ADDI.repeat(3)[..], &HALFWORDS[1]].concat();
     for start in [0, START, 0xFFFF_FFFF_FFFF_FFFC, u64::MAX - 1] {
         for (limit, span) in [(1, 4), (2, 8), (3, 12), (4, 14), (5, 14), (u32::MAX, 14)] {
             let request = Request::new(start, &run).limit(limit);
@@ -116,7 +126,8 @@ fn every_span() {
 #[test]
 fn random_requests() {
     let mut r = Random::new(171);
-    let (mut out, mut blocks, mut halves) = ([0; GREATEST_BLOCK], 0, 0);
+    let mut out = [0; GREATEST_BLOCK];
+    let (mut blocks, mut with_halfwords, mut of_halfwords) = (0, 0, 0);
     for _ in 0..300_000 {
         let wanted = requests::wanted(&mut r);
         let request = wanted.request();
@@ -126,13 +137,14 @@ fn random_requests() {
         let span = block.span();
         assert_eq!(span, of(request.halfwords, block.count()), "{request:x?}");
         assert!((2..=MOST_SPAN).contains(&span), "{request:x?}");
-        // A halfword can be the last of the instructions alone.
-        let words = 4 * u64::from(block.count());
-        assert!(span == words || span == words - 2, "{request:x?}");
+        let halfwords = 2 * u64::from(block.count());
+        assert!((halfwords..=2 * halfwords).contains(&span), "{request:x?}");
         blocks += 1;
-        halves += (span < words) as u32;
+        with_halfwords += (span < 2 * halfwords) as u32;
+        of_halfwords += (span == halfwords) as u32;
     }
-    assert!(blocks > 200_000 && halves > 20_000, "{blocks} {halves}");
+    println!("{blocks} {with_halfwords} {of_halfwords}");
+    assert!(blocks > 200_000 && with_halfwords > 50_000 && of_halfwords > 20_000);
 }
 
 /// The corpus's translations: the original's count, and the span of as many instructions.

@@ -211,7 +211,7 @@ pub fn memory(r: &mut Random) -> u32 {
     }
 }
 
-/// A halfword that ends the block by a helper: its low two bits are not 3.
+/// A compressed halfword, of any sort: its low two bits are not 3.
 pub fn halfword(r: &mut Random) -> u16 {
     let low = r.below(3) as u16;
     if r.percent(10) {
