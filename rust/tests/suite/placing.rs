@@ -1,9 +1,10 @@
 //! Placing: replies and every byte of the store against the original Rust's `alloc`.
 
+use crate::machine::memory_at;
 use crate::random::Random;
 use crate::requests::Lent;
 use emuko_original::{Emuko, Original};
-use emuko_x64_blocks::{place, CodeStore, PlaceRefusal, Placed};
+use emuko_x64_blocks::{place, translate, CodeStore, PlaceRefusal, Placed, Request};
 
 /// Offset and mark.
 type Answer = Result<(usize, usize), PlaceRefusal>;
@@ -222,4 +223,24 @@ fn side_by_side() {
         }
     }
     assert_eq!(placed, 100 * 6 * 9 * 2);
+}
+
+/// Code, store, halfwords and output at addresses whose lower half is 0, which are no null pointers.
+#[test]
+fn every_slice_at_a_multiple_of_4_gib() {
+    let mut r = Random::new(71);
+    let (code, lent) = (memory_at(1 << 32, 0x4000), memory_at(2 << 32, 0x4000));
+    code.iter_mut().for_each(|byte| *byte = r.u32() as u8);
+    let (copy, mut other) = (code.to_vec(), vec![0; 0x4000]);
+    assert_eq!(
+        answer(place(&code[..100], lent, 8)),
+        answer(place(&copy[..100], &mut other, 8))
+    );
+    assert!(lent == other);
+    // SAFETY: The memory is aligned, and any two bytes are a halfword.
+    let run = unsafe { std::slice::from_raw_parts(code.as_ptr().cast::<u16>(), 64) };
+    let halfwords = run.to_vec();
+    let (here, there) = (Request::new(0, run), Request::new(0, &halfwords));
+    assert_eq!(translate(&here, lent), translate(&there, &mut other));
+    assert!(lent == other);
 }
