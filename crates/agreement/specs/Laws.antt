@@ -1,6 +1,5 @@
 -- Statements that are proved beside the agreement, a theorem of the same name in small letters for each.
-use Rattle.std.specs.Prelude.{◌≡◌, false, true, List, [], ◌∷◌, ◌++◌, ◌≢◌, ℕ, zero, suc, min, ◌+◌, ◌*◌, ◌%◌, ◌^◌, ◌≤◌, ◌<◌, length, take, drop, ltb, eqb, ℤ, nat_abs, ◌+ℤ◌, ◌*ℤ◌}
-use Rattle.std.proofs.Math.Option.{some}
+use Rattle.std.specs.Prelude.{◌≡◌, false, true, List, [], ◌∷◌, ◌++◌, ◌≢◌, ℕ, zero, suc, min, ◌+◌, ◌*◌, ◌%◌, ◌^◌, ◌≤◌, ◌<◌, length, take, drop, ltb, eqb, ℤ, nat_abs, ◌+ℤ◌, ◌*ℤ◌, Some}
 use Rattle.std.proofs.Math.IntN.{ℤ.pos}
 use Rattle.std.specs.Int.Signed.{lt_z, non_neg}
 use Rattle.agreement.specs.Common.{greatest, most_steps, Helper.for_access}
@@ -25,11 +24,11 @@ use Rattle.agreement.specs.Translation.Replies.{Block, Reply.block, output_after
 -- What the encoder writes decodes to that instruction, whatever follows; what decodes is byte for byte so written.
 
 unfoldable pub Decodes : Type 0
-Decodes = (i : Instr) (rest : List ℕ) → Ok i → decode (encode i ++ rest) ≡ some (i, rest)
+Decodes = (i : Instr) (rest : List ℕ) → Ok i → decode (encode i ++ rest) ≡ Some (i, rest)
 
 unfoldable pub Encodes : Type 0
 Encodes = (bs : List ℕ) (i : Instr) (rest : List ℕ)
-    → Bytes bs → decode bs ≡ some (i, rest) → (bs ≡ encode i ++ rest) × Ok i
+    → Bytes bs → decode bs ≡ Some (i, rest) → (bs ≡ encode i ++ rest) × Ok i
 
 -- Which instruction a word is: the tests name what the manual's listing names, where document 01 chooses it, and else none.
 
@@ -68,7 +67,7 @@ pub record Listed (w : ℕ) : Type 0 where
   pub is_straight_or_ends : is_in_line (taken w) ≡ true
 
 unfoldable pub ExpandsToListed : Type 0
-ExpandsToListed = (h w : ℕ) → in_line h ≡ some w → Listed w
+ExpandsToListed = (h w : ℕ) → in_line h ≡ Some w → Listed w
 
 -- A run that was fetched no further than `needed` is translated as the whole run is.
 
@@ -177,7 +176,7 @@ DivideUnsigned = (n a b : ℕ) → b ≢ 0 → DividesU n a b
 
 unfoldable pub StepsAlike : Type 0
 StepsAlike = (undefined : State → Flags) (ok : Permissions) (s t : State) (n : ℕ) (ws : List ℕ)
-    → Goes undefined ok s n ws t → steps undefined ok n s ≡ some (t, ws)
+    → Goes undefined ok s n ws t → steps undefined ok n s ≡ Some (t, ws)
 
 -- What a block's reply leaves in the output: the block at its front, the rest as before, the length as before.
 

@@ -1,7 +1,7 @@
 -- A block from its entry to its return, or to the call of its helper and on from there.
 use Rattle.std.proofs.Common.{Bool, cond, false, true, List, [], ◌++◌, ◌∷◌, append_assoc, ◌∙◌, ◌≡◌, ap, refl, subst, sym, ◌%◌, ◌*◌, ◌+◌}
+use Rattle.std.specs.Prelude.{Some}
 use Rattle.std.proofs.Common.{◌/◌, ◌<◌, ◌^◌, suc, ℕ, mod-eq_of_lt, arith, eqb, eqb→eq, leb, length, length-append}
-use mathlib.Core.Option.{some}
 use Rattle.agreement.specs.Common.{Helper, Helper.for_access, Helper.for_halfword}
 use Rattle.agreement.specs.Riscv.Run.{Read, Registers, Stop.called, Stop.plain}
 use Rattle.agreement.specs.Translation.Emit.{add_count, closing, opening, passes}
@@ -198,8 +198,8 @@ module _ (undefined : State → Flags) (ok : Permissions) (P : ℕ → Bool) (b 
     pub t : State
     pub n : ℕ
     pub way : Way undefined ok P s u n
-    pub fetch : next ok u ≡ some (fetch ret)
-    pub does : step undefined ok u ≡ some (t, [])
+    pub fetch : next ok u ≡ Some (fetch ret)
+    pub does : step undefined ok u ≡ Some (t, [])
     pub w : State
     pub exit : Exit p s w t
     pub rax : w.regs RAX ≡ q.pc
@@ -280,8 +280,8 @@ module _ (undefined : State → Flags) (ok : Permissions) (P : ℕ → Bool) (b 
     pub t : State
     pub m : ℕ
     pub way : Way undefined ok P v u m
-    pub fetch : next ok u ≡ some (fetch ret)
-    pub does : step undefined ok u ≡ some (t, [])
+    pub fetch : next ok u ≡ Some (fetch ret)
+    pub does : step undefined ok u ≡ Some (t, [])
     pub w : State
     pub exit : Exit p e w t
     pub rax : w.regs RAX ≡ v.regs RAX

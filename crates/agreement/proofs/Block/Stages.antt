@@ -1,8 +1,8 @@
 -- The stages of a block: entry, in the middle of it, at a helper's first instruction, and how each leads to the next.
 -- b: the registers' address; c: the block's; p: 64 below the entry stack pointer; P: the addresses that may be written.
 use Rattle.std.proofs.Common.{Bool, false, true, List, [], ◌++◌, append_assoc, ◌∙◌, ◌≡◌, ap, refl, sym, ◌%◌, ◌*◌, ◌+◌, ◌-◌, ◌<◌, ◌^◌, ◌≤◌}
+use Rattle.std.specs.Prelude.{Some}
 use Rattle.std.proofs.Common.{ℕ, arith, length, length-append}
-use mathlib.Core.Option.{some}
 use Rattle.agreement.specs.Riscv.Run.{Registers}
 use Rattle.agreement.specs.Translation.Emit.{closing, opening}
 use Rattle.agreement.specs.Statement.Premises.{Apart}
@@ -199,16 +199,16 @@ module _ (undefined : State → Flags) (ok : Permissions) (P : ℕ → Bool) (b 
     pub u : State
     pub t : State
     pub way : Way undefined ok P s u (length closing)
-    pub fetch : next ok u ≡ some (fetch ret)
-    pub does : step undefined ok u ≡ some (t, [])
+    pub fetch : next ok u ≡ Some (fetch ret)
+    pub does : step undefined ok u ≡ Some (t, [])
     pub exit : Exit p e s t
 
   ret_step : (u : State) → Holds ok.fetch u.mem u.rip (encode ret) → all ok.read (span 8 (u.regs RSP)) ≡ true
-      → step undefined ok u ≡ some (one undefined ret u, [])
+      → step undefined ok u ≡ Some (one undefined ret u, [])
   ret_step u h a =
       by (step_is undefined ok ret u ok_ret h (unfold faults in refl) (unfold accesses in a) (unfold accesses in nothing ok.write))
     where
-      by : step undefined ok u ≡ some (one undefined ret u, writes ret u) → step undefined ok u ≡ some (one undefined ret u, [])
+      by : step undefined ok u ≡ Some (one undefined ret u, writes ret u) → step undefined ok u ≡ Some (one undefined ret u, [])
       by e = unfold accesses in e
 
   pub leave : (x : Registers) (pre : List ℕ) (e s : State) → code ≡ pre ++ (bytes closing ++ encode ret)
@@ -305,8 +305,8 @@ module _ (undefined : State → Flags) (ok : Permissions) (P : ℕ → Bool) (b 
 
   pub record Calls (u : State) : Type 0 where
     pub ws : List ℕ
-    pub fetch : next ok u ≡ some (fetch call_rax)
-    pub does : step undefined ok u ≡ some (one undefined call_rax u, ws)
+    pub fetch : next ok u ≡ Some (fetch call_rax)
+    pub does : step undefined ok u ≡ Some (one undefined call_rax u, ws)
     pub own : all P ws ≡ true
 
   -- the CALL writes the eight bytes at p

@@ -2,7 +2,7 @@
 -- Registers at 0x10000, block at 0x20000; three entry stack pointers, two of which differ modulo 32, and one as high as can
 -- be. The block may only be fetched from, the registers and the stack only read and written, and nothing else may be touched.
 use Rattle.std.proofs.Common.{Bool, false, ◌&&◌, ◌||◌, List, [], ◌∷◌, ℕ, ◌+◌, ◌-◌, ◌*◌, ◌%◌, length, replicate, leb, ltb}
-use mathlib.Core.Option.{none}
+use Rattle.std.specs.Prelude.{None}
 use Rattle.agreement.specs.Riscv.Code.{Code}
 use Rattle.agreement.specs.X86.Memory.{at, read, write}
 use Rattle.agreement.specs.X86.Form.{RAX, RDX, RSP}
@@ -61,7 +61,7 @@ abbrev pub refused_turn : Turn
 refused_turn = record {
   limit = 0;
   made = [];
-  code = λ x. none;
+  code = λ x. None;
   reach = 0;
   helper16 = 0;
   helper_mem = 0;

@@ -1,7 +1,7 @@
 -- The model computes: the example's plain block, one of compressed halfwords, one that jumps over its division and one that divides, fetched, decoded and
 -- executed step by step from entry to return.
 use Rattle.std.proofs.Common.{false, true, List, [], ◌∷◌, ◌≡◌, refl, ◌-◌, ◌^◌, ℕ, length}
-use mathlib.Core.Option.{Option, none, some}
+use Rattle.std.specs.Prelude.{Option, None, Some}
 use Rattle.agreement.specs.Translation.Replies.{walked}
 use Rattle.agreement.specs.Translation.Walk.{instrs}
 use Rattle.agreement.specs.Statement.Machine.{enter}
@@ -29,8 +29,8 @@ code = code_of (0x00108113 ∷ 0x00209863 ∷ [])
 
 -- RAX, RDX, RSP, slot x2 and how many bytes were written; all 0 where there was no next state
 abbrev summary : Option (State × List ℕ) → ℕ × ℕ × ℕ × ℕ × ℕ
-summary none = (0, 0, 0, 0, 0)
-summary (some a) = (a.0.regs RAX, a.0.regs RDX, a.0.regs RSP, read 8 a.0.mem 0x10010, length a.1)
+summary None = (0, 0, 0, 0, 0)
+summary (Some a) = (a.0.regs RAX, a.0.regs RDX, a.0.regs RSP, read 8 a.0.mem 0x10010, length a.1)
 
 unfoldable pub the_model : Unit {0}
 unfolding
@@ -67,6 +67,6 @@ by_itself = refl
 abbrev read_only : Permissions
 read_only = record { fetch = λ x. true; read = λ x. true; write = λ x. false }
 
-write-faults : step plain_turn.undefined read_only (enter plain_turn code zeros) ≡ none
+write-faults : step plain_turn.undefined read_only (enter plain_turn code zeros) ≡ None
 unfolding the_model translations immediates words
 write-faults = refl

@@ -2,7 +2,7 @@
 -- translator's expansion is this one is a theorem (Laws/Expanding); a change of both alike is noticed here. All 49,152 halfwords are compared
 -- with such words outside (checks/compressed.py).
 use Rattle.std.proofs.Common.{◌≡◌, refl, Bool, true, false, ◌&&◌, List, [], ◌∷◌, ℕ, eqb}
-use Rattle.std.proofs.Math.Option.{Option, none, some}
+use Rattle.std.specs.Prelude.{Option, None, Some}
 use Rattle.agreement.specs.Riscv.Compressed.{expansion, expansion_by, find}
 use Rattle.agreement.proofs.Checks.CasesHold.{immediates}
 
@@ -15,12 +15,12 @@ abbrev ◌⇒◌ : ℕ → ℕ → Expands
 ◌⇒◌ h w = record { halfword = h; word = w }
 
 abbrev is : Option ℕ → ℕ → Bool
-is none w = false
-is (some v) w = eqb v w
+is None w = false
+is (Some v) w = eqb v w
 
 abbrev is_reserved : Option ℕ → Bool
-is_reserved none = true
-is_reserved (some w) = false
+is_reserved None = true
+is_reserved (Some w) = false
 
 unfoldable every : List Expands → Bool
 every [] = true

@@ -2,7 +2,7 @@
 -- backward. For each instruction that touches memory the least that has to be permitted is enough, and one address less is not; the
 -- instruction stands at address 0, every register is 0x1000.
 use Rattle.std.proofs.Common.{Bool, ◌&&◌, cond, false, not, true, List, [], ◌∷◌, ◌≡◌, refl, ℕ, ◌+◌, ◌-◌, ◌^◌, eqb, leb, ltb}
-use mathlib.Core.Option.{Option, none, some}
+use Rattle.std.specs.Prelude.{Option, None, Some}
 use Rattle.agreement.specs.X86.Decode.{Answer, cc_of, decode, imm, loaded, memory, modrm, moved, mul_div_of, on_reg, only, opcode1, pick}
 use Rattle.agreement.specs.X86.Decode.{width_of}
 use Rattle.agreement.specs.X86.Execute.{accesses, division_faults, faults}
@@ -19,8 +19,8 @@ goes bytes f rl r wl w = by (step (λ s. off)
     (record { regs = λ k. 0x1000; flags = off; rip = 0; mem = nth bytes }))
   where
     by : Option (State × List ℕ) → Bool
-    by none = false
-    by (some a) = true
+    by None = false
+    by (Some a) = true
 
 -- n bytes, which read the 8 bytes from a: these may be read, and no fewer; nothing is written
 abbrev reads : List ℕ → ℕ → ℕ → Bool
@@ -56,8 +56,8 @@ divides rex m high low d = by (step (λ s. off)
     }))
   where
     by : Option (State × List ℕ) → Bool
-    by none = false
-    by (some a) = true
+    by None = false
+    by (Some a) = true
 
 -- DIV R11 (49 F7 F3), IDIV R11 (49 F7 FB), DIV R11D (41 F7 F3) and IDIV R11D (41 F7 FB), as a processor does them: by 0, and with
 -- quotients that are too large by one; and with the greatest and the least quotient. Bits above the operand size do not count
@@ -101,8 +101,8 @@ abbrev jumps : ℕ → Bool
 jumps d = by (decode (0x72 ∷ d ∷ []))
   where
     by : Answer → Bool
-    by none = false
-    by (some a) = true
+    by None = false
+    by (Some a) = true
 
 forward_only : jumps 0x00 && (jumps 0x7F && (not (jumps 0x80) && not (jumps 0xFE))) ≡ true
 unfolding decode pick only opcode1 cc_of imm

@@ -1,13 +1,13 @@
 -- Runs of a code, by computing: around the end of the address space, up to what was fetched, up to what is missing.
 use Rattle.std.proofs.Common.{cond, [], ◌∷◌, ◌≡◌, refl, eqb}
-use mathlib.Core.Option.{none, some}
+use Rattle.std.specs.Prelude.{None, Some}
 use Rattle.agreement.specs.Riscv.Code.{Code, run_at}
 
 -- halfwords at 2^64 - 4, 2^64 - 2, 0, 2, 3 and 6, where the number has more than 16 bits, and none elsewhere
 abbrev around : Code
 around x =
-    cond (eqb x 0xFFFFFFFFFFFFFFFC) (some 0x100F) (cond (eqb x 0xFFFFFFFFFFFFFFFE) (some 0x0000)
-    (cond (eqb x 0) (some 0x0093) (cond (eqb x 2) (some 0x0050) (cond (eqb x 3) (some 0x0001) (cond (eqb x 6) (some 0x50002) none)))))
+    cond (eqb x 0xFFFFFFFFFFFFFFFC) (Some 0x100F) (cond (eqb x 0xFFFFFFFFFFFFFFFE) (Some 0x0000)
+    (cond (eqb x 0) (Some 0x0093) (cond (eqb x 2) (Some 0x0050) (cond (eqb x 3) (Some 0x0001) (cond (eqb x 6) (Some 0x50002) None)))))
 
 -- on from 2^64 - 1 to 0; no further than was fetched; up to the first halfword that is missing; at an odd address; the low 16 bits; nowhere
 runs_wrap : run_at around 0xFFFFFFFFFFFFFFFC 4 ≡ 0x100F ∷ 0x0000 ∷ 0x0093 ∷ 0x0050 ∷ []

@@ -1,7 +1,7 @@
 -- The values of M at their corners (divisors 0, the signed overflow, signs, 32-bit words, upper halves): by the manual's side, and by the
 -- host instructions of each word, which the model fetches, decodes and executes.
 use Rattle.std.proofs.Common.{Bool, ◌&&◌, cond, false, true, List, [], ◌∷◌, ◌≡◌, refl, ◌+◌, ◌-◌, ◌^◌, suc, zero, ℕ, eqb, ltb, length}
-use mathlib.Core.Option.{Option, none, some}
+use Rattle.std.specs.Prelude.{Option, None, Some}
 use Rattle.agreement.specs.Riscv.Immediates.{sign_extend}
 use Rattle.agreement.specs.Riscv.Instruction.{Op, bits_of, overflows, quotient, quotient_u, remainder, remainder_u, signed, value_op}
 use Rattle.agreement.specs.Riscv.Instruction.Op.{DIV, DIVU, DIVUW, DIVW, MULH, MULHSU, MULHU, REM, REMU, REMUW, REMW}
@@ -93,8 +93,8 @@ before x = record {
 
 -- as far as there is a next state, at most k steps, only the code's n bytes being there to fetch
 abbrev or_stay : State → Option (State × List ℕ) → State
-or_stay s none = s
-or_stay s (some t) = t.0
+or_stay s None = s
+or_stay s (Some t) = t.0
 
 abbrev runs : ℕ → ℕ → State → State
 runs n zero s = s

@@ -1,7 +1,7 @@
 -- Decoding what the encoder writes gives the instruction back, and its length.
 use Rattle.std.proofs.Common.{false, true, List, ◌++◌, ◌∷◌, append_assoc, ◌∙◌, ◌≡◌, refl, ◌%◌, ◌*◌, ◌+◌, ◌/◌, ◌<◌, ◌^◌, ◌≤◌, suc, zero, ℕ}
+use Rattle.std.specs.Prelude.{Some}
 use Rattle.std.proofs.Common.{pow-suc, arith, eqb, ltb}
-use mathlib.Core.Option.{some}
 use native.Mathlib.Decide.{dec_le, ℕ_discrete}
 use native.Mathlib.Nat.{pow-zero}
 use Rattle.agreement.specs.X86.Decode.{Answer, Operand, alu_of, cc_of, decode, imm, loaded, memory, modrm, moved, on_reg, only, opcode_0f}
@@ -162,7 +162,7 @@ unfolding imm
 one_byte v rest k = let e : v + 256 * 0 ≡ v = omega arith in rw e
 
 at_alu : (op : Alu) (w r b : ℕ) (bs : List ℕ)
-    → opcode1 w r b ((8 * digit op + 1) ∷ bs) ≡ modrm r b bs (λ p g rest. on_reg p (λ d. some (alu (width_of w) op d g, rest)))
+    → opcode1 w r b ((8 * digit op + 1) ∷ bs) ≡ modrm r b bs (λ p g rest. on_reg p (λ d. Some (alu (width_of w) op d g, rest)))
 unfolding opcode1 alu_of pick only
 at_alu add w r b bs = refl
 at_alu or w r b bs = refl
@@ -180,7 +180,7 @@ no_rex xor = refl
 no_rex cmp = refl
 
 at_cmov : (c : Cc) (r b : ℕ) (bs : List ℕ)
-    → opcode1 1 r b (0x0F ∷ (64 + cc_number c) ∷ bs) ≡ modrm r b bs (λ p g rest. on_reg p (λ s. some (cmov c g s, rest)))
+    → opcode1 1 r b (0x0F ∷ (64 + cc_number c) ∷ bs) ≡ modrm r b bs (λ p g rest. on_reg p (λ s. Some (cmov c g s, rest)))
 unfolding opcode1 opcode_0f cc_of pick only
 at_cmov B r b bs = refl
 at_cmov AE r b bs = refl
@@ -189,7 +189,7 @@ at_cmov NE r b bs = refl
 at_cmov L r b bs = refl
 at_cmov GE r b bs = refl
 
-at_set : (c : Cc) (rest : List ℕ) → decode (0x0F ∷ (144 + cc_number c) ∷ 0xC0 ∷ rest) ≡ some (setcc_al c, rest)
+at_set : (c : Cc) (rest : List ℕ) → decode (0x0F ∷ (144 + cc_number c) ∷ 0xC0 ∷ rest) ≡ Some (setcc_al c, rest)
 unfolding decode opcode1 opcode_0f cc_of modrm on_reg pick only
 at_set B rest = refl
 at_set AE rest = refl
@@ -199,7 +199,7 @@ at_set L rest = refl
 at_set GE rest = refl
 
 at_jump : (c : Cc) (d : ℕ) (rest : List ℕ)
-    → decode ((112 + cc_number c) ∷ d ∷ rest) ≡ imm 1 (d ∷ rest) (λ v r. only (ltb v 128) (some (jcc c v, r)))
+    → decode ((112 + cc_number c) ∷ d ∷ rest) ≡ imm 1 (d ∷ rest) (λ v r. only (ltb v 128) (Some (jcc c v, r)))
 unfolding decode opcode1 cc_of pick only
 at_jump B d rest = refl
 at_jump AE d rest = refl
@@ -212,14 +212,14 @@ forward : (d : ℕ) (x : Answer) → d < 128 → only (ltb d 128) x ≡ x
 unfolding only
 forward d x l = rw (leb_yes (suc d) 128 l)
 
-at_push : (r : ℕ) (rest : List ℕ) → r < 16 → opcode1 0 0 (r / 8) ((80 + r % 8) ∷ rest) ≡ some (push r, rest)
+at_push : (r : ℕ) (rest : List ℕ) → r < 16 → opcode1 0 0 (r / 8) ((80 + r % 8) ∷ rest) ≡ Some (push r, rest)
 unfolding opcode1 pick only
 at_push r rest h =
     let e : eqb ((80 + r % 8) / 8) 10 ≡ true = eqb_yes ((80 + r % 8) / 8) 10 (omega arith) in
     let f : 8 * (r / 8) + (80 + r % 8) % 8 ≡ r = omega arith in
     rw e (rw f)
 
-at_pop : (r : ℕ) (rest : List ℕ) → r < 16 → opcode1 0 0 (r / 8) ((88 + r % 8) ∷ rest) ≡ some (pop r, rest)
+at_pop : (r : ℕ) (rest : List ℕ) → r < 16 → opcode1 0 0 (r / 8) ((88 + r % 8) ∷ rest) ≡ Some (pop r, rest)
 unfolding opcode1 pick only
 at_pop r rest h =
     let d : (88 + r % 8) / 8 ≡ 11 = omega arith in
@@ -227,22 +227,22 @@ at_pop r rest h =
     rw d (rw f)
 
 at_mov_i : (r v : ℕ) (rest : List ℕ) → r < 16 → v < 2 ^ 64
-    → opcode1 1 0 (r / 8) ((184 + r % 8) ∷ (bytes_of 8 v ++ rest)) ≡ some (mov_imm64 r v, rest)
+    → opcode1 1 0 (r / 8) ((184 + r % 8) ∷ (bytes_of 8 v ++ rest)) ≡ Some (mov_imm64 r v, rest)
 unfolding opcode1 pick only
 at_mov_i r v rest h l =
     let d : (184 + r % 8) / 8 ≡ 23 = omega arith in
     let f : 8 * (r / 8) + (184 + r % 8) % 8 ≡ r = omega arith in
-    rw d (rw f (imm-le 8 v rest (λ v rest. some (mov_imm64 r v, rest)) l))
+    rw d (rw f (imm-le 8 v rest (λ v rest. Some (mov_imm64 r v, rest)) l))
 
-at_call : (rest : List ℕ) → decode (0xFF ∷ 0xD0 ∷ rest) ≡ some (call_rax, rest)
+at_call : (rest : List ℕ) → decode (0xFF ∷ 0xD0 ∷ rest) ≡ Some (call_rax, rest)
 unfolding decode opcode1 modrm on_reg pick only
 at_call rest = refl
 
-at_ret : (rest : List ℕ) → decode (0xC3 ∷ rest) ≡ some (ret, rest)
+at_ret : (rest : List ℕ) → decode (0xC3 ∷ rest) ≡ Some (ret, rest)
 unfolding decode opcode1 pick only
 at_ret rest = refl
 
-pub round : (i : Instr) (rest : List ℕ) → Ok i → decode (encode i ++ rest) ≡ some (i, rest)
+pub round : (i : Instr) (rest : List ℕ) → Ok i → decode (encode i ++ rest) ≡ Some (i, rest)
 unfolding Ok opcode1 on_reg moved loaded opcode_0f pick only
 round (push r) rest h =
     let e : eqb ((80 + r % 8) / 16) 4 ≡ false = eqb_no ((80 + r % 8) / 16) 4 (omega arith) in

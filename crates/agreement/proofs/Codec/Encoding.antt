@@ -1,7 +1,7 @@
 -- What the decoder takes is what the encoder writes.
 use Rattle.std.proofs.Common.{Bool, ◌&&◌, cond, false, not, true, List, [], ◌++◌, ◌∷◌, append_assoc, ◌∙◌, ◌≡◌, ap, refl, subst, ◌%◌, ◌*◌}
+use Rattle.std.specs.Prelude.{None, Some}
 use Rattle.std.proofs.Common.{◌+◌, ◌/◌, ◌<◌, ◌^◌, suc, zero, ℕ, pow-suc, arith, eqb, eqb→eq, ltb, ltb→lt}
-use mathlib.Core.Option.{none, some}
 use native.Mathlib.Decide.{ℕ_discrete}
 use native.Mathlib.Nat.{pow-zero}
 use Rattle.agreement.specs.Laws.{Decodes, Encodes}
@@ -23,19 +23,19 @@ use Rattle.agreement.proofs.Laws.Tests.{eqb_no, eqb_yes, of_true}
 
 -- an answer is right for the bytes W: an instruction that it gives is written as W up to the rest
 record Right (W : List ℕ) (a : Answer) : Type 0 where
-  taken : (i : Instr) (rest : List ℕ) → a ≡ some (i, rest) → (W ≡ encode i ++ rest) × Ok i
+  taken : (i : Instr) (rest : List ℕ) → a ≡ Some (i, rest) → (W ≡ encode i ++ rest) × Ok i
 
 -- the encoder writes l for i, and its operands may be
 abbrev Written : Instr → List ℕ → Type 0
 Written i l = (encode i ≡ l) × Ok i
 
-none_right : {W : List ℕ} → Right W none
+none_right : {W : List ℕ} → Right W None
 none_right = record { taken = λ i rest e. absurd (let z : ◌≡◌ {A = ℕ} 0 1 = cc in omega arith) }
 
-some_right : {W : List ℕ} (i : Instr) (l rest : List ℕ) → Written i l → W ≡ l ++ rest → Right W (some (i, rest))
+some_right : {W : List ℕ} (i : Instr) (l rest : List ℕ) → Written i l → W ≡ l ++ rest → Right W (Some (i, rest))
 some_right {W} i l rest h e = record { taken = by }
   where
-    by : (j : Instr) (rest' : List ℕ) → ◌≡◌ {A = Answer} (some (i, rest)) (some (j, rest')) → (W ≡ encode j ++ rest') × Ok j
+    by : (j : Instr) (rest' : List ℕ) → ◌≡◌ {A = Answer} (Some (i, rest)) (Some (j, rest')) → (W ≡ encode j ++ rest') × Ok j
     by j rest' q =
         let r : ◌≡◌ {A = Instr × List ℕ} (i, rest) (j, rest') = cc in
         let a : i ≡ j = ap (λ (z : Instr × List ℕ). z.0) r in
@@ -286,7 +286,7 @@ module _ (w r b : ℕ) (lw : w < 2) (lr : r < 2) (lb : b < 2) where
 
   -- an opcode os and the bytes ms of ModRM, which name g and d
   named_right : (i : Instr) (x : Width) (os ms bs rest : List ℕ) (g d : ℕ) → width_of w ≡ x → Pair r b g d → bs ≡ ms ++ rest
-      → Written i (rex x g d ++ (os ++ ms)) → Arm (os ++ bs) (some (i, rest))
+      → Written i (rex x g d ++ (os ++ ms)) → Arm (os ++ bs) (Some (i, rest))
   named_right i x os ms bs rest g d e p z f =
       let q : os ++ bs ≡ (os ++ ms) ++ rest = rw (append_assoc os ms rest, z) in
       some_right i _ rest f (joined x g d (os ++ bs) (os ++ ms) rest e p.g_bit p.d_bit q)
@@ -294,8 +294,8 @@ module _ (w r b : ℕ) (lw : w < 2) (lr : r < 2) (lb : b < 2) where
   -- an opcode os and a ModRM byte with two registers
   two_regs : (i : ℕ → ℕ → Instr) (x : Width) (os bs : List ℕ) → width_of w ≡ x → Bytes bs
       → ((d g : ℕ) → d < 16 → g < 16 → Written (i d g) (rex x g d ++ (os ++ mod_reg g d ∷ [])))
-      → Arm (os ++ bs) (modrm r b bs (λ p g rest. on_reg p (λ d. some (i d g, rest))))
-  two_regs i x os bs e h f = regs_right r b bs (λ d g rest. some (i d g, rest)) lr lb h
+      → Arm (os ++ bs) (modrm r b bs (λ p g rest. on_reg p (λ d. Some (i d g, rest))))
+  two_regs i x os bs e h f = regs_right r b bs (λ d g rest. Some (i d g, rest)) lr lb h
       (λ d g rest p s z. named_right (i d g) x os (mod_reg g d ∷ []) bs rest g d e p z (f d g p.d_ok p.g_ok))
 
   -- an opcode o, a ModRM byte with one register and a name a for an extension digit, and an immediate of n bytes; where the
@@ -303,14 +303,14 @@ module _ (w r b : ℕ) (lw : w < 2) (lr : r < 2) (lb : b < 2) where
   one_reg : {A : Type 0} (number : A → ℕ) (read : ℕ → (A → Answer) → Answer) (i : A → ℕ → ℕ → Instr) (x : Width) (o n : ℕ) (bs : List ℕ)
       → Names A number read → width_of w ≡ x → r ≡ 0 → Bytes bs
       → ((a : A) (d v : ℕ) → d < 16 → v < 256 ^ n → Written (i a d v) (rex x 0 d ++ o ∷ mod_reg (number a) d ∷ bytes_of n v))
-      → Arm (o ∷ bs) (modrm 0 b bs (λ p g rest. on_reg p (λ d. read g (λ a. imm n rest (λ v rest. some (i a d v, rest))))))
+      → Arm (o ∷ bs) (modrm 0 b bs (λ p g rest. on_reg p (λ d. read g (λ a. imm n rest (λ v rest. Some (i a d v, rest))))))
   one_reg {A} number read i x o n bs names e z h f = regs_right 0 b bs _ (omega arith) lb h by
     where
-      by : ForRegs (prefix w r b ++ o ∷ bs) 0 b bs (λ d g rest. read g (λ a. imm n rest (λ v rest. some (i a d v, rest))))
+      by : ForRegs (prefix w r b ++ o ∷ bs) 0 b bs (λ d g rest. read g (λ a. imm n rest (λ v rest. Some (i a d v, rest))))
       by d g rest p s q = names _ g _ (λ a y. imm_right n rest _ s (λ v more l t u. ends a v more y l u))
         where
           ends : (a : A) (v : ℕ) (more : List ℕ) → g ≡ number a → v < 256 ^ n → rest ≡ bytes_of n v ++ more
-              → Arm (o ∷ bs) (some (i a d v, more))
+              → Arm (o ∷ bs) (Some (i a d v, more))
           ends a v more y l u =
               let c : o ∷ bs ≡ (o ∷ mod_reg (number a) d ∷ bytes_of n v) ++ more = rw (q, y, u) in
               some_right (i a d v) _ more (f a d v p.d_ok l) (joined x 0 d (o ∷ bs) _ more e (rw z) p.d_bit c)
@@ -318,10 +318,10 @@ module _ (w r b : ℕ) (lw : w < 2) (lr : r < 2) (lb : b < 2) where
   -- an opcode o with a register in its low three bits and c above them, and an immediate of n bytes, or none with n = 0
   in_opcode : (i : ℕ → ℕ → Instr) (x : Width) (o c n : ℕ) (bs : List ℕ) → o / 8 ≡ c → width_of w ≡ x → r ≡ 0 → Bytes bs
       → ((d v : ℕ) → d < 16 → v < 256 ^ n → Written (i d v) (rex x 0 d ++ (8 * c + d % 8) ∷ bytes_of n v))
-      → Arm (o ∷ bs) (imm n bs (λ v rest. some (i (8 * b + o % 8) v, rest)))
+      → Arm (o ∷ bs) (imm n bs (λ v rest. Some (i (8 * b + o % 8) v, rest)))
   in_opcode i x o c n bs q e z h f = imm_right n bs _ h by
     where
-      by : ForImm (prefix w r b ++ o ∷ bs) n bs (λ v rest. some (i (8 * b + o % 8) v, rest))
+      by : ForImm (prefix w r b ++ o ∷ bs) n bs (λ v rest. Some (i (8 * b + o % 8) v, rest))
       by v rest l s u =
           let d : ℕ = 8 * b + o % 8 in
           let m : 8 * c + d % 8 ≡ o = rw (low8 b (o % 8) (omega arith)) (omega arith) in
@@ -347,12 +347,12 @@ module _ (w r b : ℕ) (lw : w < 2) (lr : r < 2) (lb : b < 2) where
 
   -- the two forms that name one register alone, AL and RAX: no prefix, and one ModRM byte that is taken
   setcc_arm : (o : ℕ) (bs : List ℕ) → Bytes bs → 4 * w + 2 * r + b ≡ 0 → o / 16 ≡ 9 → Arm (0x0F ∷ o ∷ bs)
-      (cc_of (o % 16) (λ c. modrm 0 0 bs (λ p g rest. on_reg p (λ s. only (eqb (g + s) 0) (some (setcc_al c, rest))))))
+      (cc_of (o % 16) (λ c. modrm 0 0 bs (λ p g rest. on_reg p (λ s. only (eqb (g + s) 0) (Some (setcc_al c, rest))))))
   unfolding Ok
   setcc_arm o bs h e q = ccs _ (o % 16) _ (λ c f. regs_right 0 0 bs _ (omega arith) (omega arith) h (by c f))
     where
       by : (c : Cc) → o % 16 ≡ cc_number c
-          → ForRegs (prefix w r b ++ 0x0F ∷ o ∷ bs) 0 0 bs (λ s g rest. only (eqb (g + s) 0) (some (setcc_al c, rest)))
+          → ForRegs (prefix w r b ++ 0x0F ∷ o ∷ bs) 0 0 bs (λ s g rest. only (eqb (g + s) 0) (Some (setcc_al c, rest)))
       by c f d g rest p s z = only_is (g + d) 0 (λ t.
           let n : o ≡ 144 + cc_number c = omega arith in
           let g0 : g ≡ 0 = omega arith in
@@ -360,11 +360,11 @@ module _ (w r b : ℕ) (lw : w < 2) (lr : r < 2) (lb : b < 2) where
           some_right (setcc_al c) _ rest (refl, tt) (bare e (0x0F ∷ o ∷ bs) ∙ rw (n, z, g0, d0)))
 
   call_arm : (bs : List ℕ) → Bytes bs → 4 * w + 2 * r + b ≡ 0 → Arm (0xFF ∷ bs)
-      (modrm 0 0 bs (λ p g rest. on_reg p (λ d. only (eqb (16 * g + d) 32) (some (call_rax, rest)))))
+      (modrm 0 0 bs (λ p g rest. on_reg p (λ d. only (eqb (16 * g + d) 32) (Some (call_rax, rest)))))
   unfolding Ok
   call_arm bs h e = regs_right 0 0 bs _ (omega arith) (omega arith) h by
     where
-      by : ForRegs (prefix w r b ++ 0xFF ∷ bs) 0 0 bs (λ d g rest. only (eqb (16 * g + d) 32) (some (call_rax, rest)))
+      by : ForRegs (prefix w r b ++ 0xFF ∷ bs) 0 0 bs (λ d g rest. only (eqb (16 * g + d) 32) (Some (call_rax, rest)))
       by d g rest p s z = only_is (16 * g + d) 32 (λ t.
           let l : d < 16 = p.d_ok in
           let g2 : g ≡ 2 = omega arith in
@@ -372,7 +372,7 @@ module _ (w r b : ℕ) (lw : w < 2) (lr : r < 2) (lb : b < 2) where
           some_right call_rax _ rest (refl, tt) (bare e (0xFF ∷ bs) ∙ rw (z, g2, d0)))
 
   -- CQO has no operand; a jump has a displacement that is not negative
-  cqo_arm : (bs : List ℕ) → 2 * r + b ≡ 0 → Arm (0x99 ∷ bs) (some (cqo (width_of w), bs))
+  cqo_arm : (bs : List ℕ) → 2 * r + b ≡ 0 → Arm (0x99 ∷ bs) (Some (cqo (width_of w), bs))
   unfolding Ok
   cqo_arm bs e =
       let p : r ≡ 0 = omega arith in
@@ -380,12 +380,12 @@ module _ (w r b : ℕ) (lw : w < 2) (lr : r < 2) (lb : b < 2) where
       some_right (cqo (width_of w)) _ bs (refl, tt) (joined (width_of w) 0 0 (0x99 ∷ bs) (0x99 ∷ []) bs refl (rw p) (rw q) refl)
 
   jump_arm : (o : ℕ) (bs : List ℕ) → Bytes bs → 4 * w + 2 * r + b ≡ 0 → o / 16 ≡ 7
-      → Arm (o ∷ bs) (cc_of (o % 16) (λ c. imm 1 bs (λ d rest. only (ltb d 128) (some (jcc c d, rest)))))
+      → Arm (o ∷ bs) (cc_of (o % 16) (λ c. imm 1 bs (λ d rest. only (ltb d 128) (Some (jcc c d, rest)))))
   unfolding Ok
   jump_arm o bs h e q = ccs _ (o % 16) _ (λ c f. imm_right 1 bs _ h (λ d rest l s z. only_right (ltb d 128) (λ t. by c f d rest l z t)))
     where
       by : (c : Cc) → o % 16 ≡ cc_number c → (d : ℕ) (rest : List ℕ) → d < 256 ^ 1 → bs ≡ bytes_of 1 d ++ rest → ltb d 128 ≡ true
-          → Arm (o ∷ bs) (some (jcc c d, rest))
+          → Arm (o ∷ bs) (Some (jcc c d, rest))
       by c f d rest l z t =
           let n : o ≡ 112 + cc_number c = omega arith in
           let y : bs ≡ d ∷ rest = z ∙ ap (λ (l : List ℕ). l ++ rest) (byte d l) in

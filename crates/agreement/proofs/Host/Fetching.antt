@@ -1,7 +1,7 @@
 -- From bytes in memory to a step.
 use Rattle.std.proofs.Common.{Bool, cond, false, true, List, [], ◌++◌, ◌∷◌, ◌∙◌, ◌≡◌, ap, refl, ◌%◌, ◌*◌, ◌+◌, ◌-◌, ◌/◌, ◌<◌, ◌^◌, ◌≤◌, suc}
+use Rattle.std.specs.Prelude.{Some}
 use Rattle.std.proofs.Common.{zero, ℕ, arith, eqb, length, length-append}
-use mathlib.Core.Option.{some}
 use Rattle.agreement.specs.X86.Encode.{encode, mod_mem, rex}
 use Rattle.agreement.specs.X86.Execute.{accesses, exec, faults}
 use Rattle.agreement.specs.X86.Form.{Instr, Ok, Width}
@@ -96,7 +96,7 @@ abbrev pub fetch : Instr → Fetch
 fetch i = record { instr = i; size = length (encode i) }
 
 pub next_is : (ok : Permissions) (i : Instr) (s : State) → Ok i
-    → Holds ok.fetch s.mem s.rip (encode i) → next ok s ≡ some (fetch i)
+    → Holds ok.fetch s.mem s.rip (encode i) → next ok s ≡ Some (fetch i)
 unfolding next cut
 next_is ok i s o h =
     let r = fetch_holds ok.fetch 15 s.mem s.rip (encode i) h (short i) in
@@ -115,6 +115,6 @@ writes i s = (accesses i s).written
 
 pub step_is : (undefined : State → Flags) (ok : Permissions) (i : Instr) (s : State)
     → Ok i → Holds ok.fetch s.mem s.rip (encode i) → faults i s ≡ false → all ok.read (reads i s) ≡ true
-    → all ok.write (writes i s) ≡ true → step undefined ok s ≡ some (one undefined i s, writes i s)
+    → all ok.write (writes i s) ≡ true → step undefined ok s ≡ Some (one undefined i s, writes i s)
 unfolding step did one
 step_is undefined ok i s o h f r w = rw (next_is ok i s o h) (rw (f, did) (rw (r, did) (rw w)))

@@ -1,7 +1,7 @@
 -- Running a list of straight instructions, and what the log of a run says.
 use Rattle.std.proofs.Common.{Bool, false, true, List, [], ◌++◌, ◌∷◌, append_assoc, ◌≢◌, ◌∙◌, ◌≡◌, ap, refl, subst, sym, ◌+◌, ◌<◌, ◌^◌, suc}
+use Rattle.std.specs.Prelude.{Option, None, Some}
 use Rattle.std.proofs.Common.{zero, ℕ, arith, T, length, length-append}
-use mathlib.Core.Option.{Option, none, some}
 use Rattle.agreement.specs.X86.Encode.{bytes, encode}
 use Rattle.agreement.specs.X86.Execute.{accesses, below, exec, operand, division_faults, faults}
 use Rattle.agreement.specs.X86.Form.{Instr, Ok, MulDiv}
@@ -112,8 +112,8 @@ one_rip undefined i s t = exec_rip undefined i (past (length (encode i)) s) t
 
 -- one step, o bytes of the code before it
 pub record Stepped (undefined : State → Flags) (ok : Permissions) (c : ℕ) (code : List ℕ) (i : Instr) (s : State) : Type 0 where
-  pub fetched : next ok s ≡ some (fetch i)
-  pub does : step undefined ok s ≡ some (one undefined i s, writes i s)
+  pub fetched : next ok s ≡ Some (fetch i)
+  pub does : step undefined ok s ≡ Some (one undefined i s, writes i s)
   pub held : Holds ok.fetch (one undefined i s).mem c code
 
 pub stepped : (undefined : State → Flags) (ok : Permissions) (c : ℕ) (code : List ℕ) (i : Instr) (pre post : List ℕ) (s : State)
@@ -312,26 +312,26 @@ unwritten undefined P call_rax s x n h e = out8 P s.mem (below s) (at s.rip n) x
 -- what a step did
 pub record Step (undefined : State → Flags) (ok : Permissions) (s t : State) (ws : List ℕ) : Type 0 where
   pub f : Fetch
-  pub fetched : next ok s ≡ some f
+  pub fetched : next ok s ≡ Some f
   pub state : t ≡ exec undefined f.instr (past f.size s)
   pub log : ws ≡ writes f.instr s
 
 pub step_inv : (undefined : State → Flags) (ok : Permissions) (s t : State) (ws : List ℕ)
-    → step undefined ok s ≡ some (t, ws) → Step undefined ok s t ws
+    → step undefined ok s ≡ Some (t, ws) → Step undefined ok s t ws
 unfolding step did
 step_inv undefined ok s t ws e = go (next ok s) refl e
   where
-    go : (o : Option Fetch) → next ok s ≡ o → did undefined ok s o ≡ some (t, ws) → Step undefined ok s t ws
-    go none q e = absurd (let z : ◌≡◌ {A = ℕ} 0 1 = cc in omega arith)
-    go (some f) q e = by (faults f.instr s) (all ok.read (reads f.instr s)) (all ok.write (writes f.instr s)) e
+    go : (o : Option Fetch) → next ok s ≡ o → did undefined ok s o ≡ Some (t, ws) → Step undefined ok s t ws
+    go None q e = absurd (let z : ◌≡◌ {A = ℕ} 0 1 = cc in omega arith)
+    go (Some f) q e = by (faults f.instr s) (all ok.read (reads f.instr s)) (all ok.write (writes f.instr s)) e
       where
         after : State × List ℕ
         after = (exec undefined f.instr (past f.size s), writes f.instr s)
 
         may : Bool → Bool → Bool → Option (State × List ℕ)
-        may z x y = elim z [ true ↦ none | false ↦ elim x [ true ↦ elim y [ true ↦ some after | false ↦ none ] | false ↦ none ] ]
+        may z x y = elim z [ true ↦ None | false ↦ elim x [ true ↦ elim y [ true ↦ Some after | false ↦ None ] | false ↦ None ] ]
 
-        by : (z x y : Bool) → may z x y ≡ some (t, ws) → Step undefined ok s t ws
+        by : (z x y : Bool) → may z x y ≡ Some (t, ws) → Step undefined ok s t ws
         by true x y e = absurd (let z : ◌≡◌ {A = ℕ} 0 1 = cc in omega arith)
         by false true true e =
             let r : ◌≡◌ {A = State × List ℕ} (t, ws) after = cc in
@@ -340,7 +340,7 @@ step_inv undefined ok s t ws e = go (next ok s) refl e
         by false false y e = absurd (let z : ◌≡◌ {A = ℕ} 0 1 = cc in omega arith)
 
 pub step_unlogged : (undefined : State → Flags) (ok : Permissions) (P : ℕ → Bool) (s t : State) (ws : List ℕ) (x : ℕ)
-    → step undefined ok s ≡ some (t, ws) → all P ws ≡ true → P x ≡ false → t.mem x ≡ s.mem x
+    → step undefined ok s ≡ Some (t, ws) → all P ws ≡ true → P x ≡ false → t.mem x ≡ s.mem x
 step_unlogged undefined ok P s t ws x st h e =
     let r = step_inv undefined ok s t ws st in
     rw r.state (unwritten undefined P r.f.instr s x r.f.size (rw r.log at h) e)

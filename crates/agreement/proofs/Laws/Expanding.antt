@@ -1,7 +1,7 @@
 -- The translator's word for a halfword is the manual's, for every number, where that is read in line; else there is none.
 use Rattle.std.proofs.Common.{Bool, cond, false, not, true, ◌&&◌, ◌∙◌, ◌≡◌, refl, subst, sym, ◌%◌, ◌*◌, ◌+◌, ◌-◌, ◌/◌, ◌<◌, ◌^◌}
+use Rattle.std.specs.Prelude.{Option, None, Some}
 use Rattle.std.proofs.Common.{suc, zero, ℕ, mod-lt, arith, eqb, pow_mono, pow_pos, shr-shr}
-use Rattle.std.proofs.Math.Option.{Option, none, some, some-injective}
 use native.Mathlib.Decide.{ℕ_discrete}
 use lib.Pow.{high, mod-pow-add}
 use Rattle.agreement.specs.Laws.{ExpandsAlike, ExpandsToListed, Listed}
@@ -72,37 +72,37 @@ type_b_is s y x r f l k m =
 -- 3. What the translator's word is: a word that is read in line, none of one that a helper runs, none of none
 
 data Alike : Option ℕ → Option ℕ → Type 0 where
-  read : (v w : ℕ) → v ≡ w → Listed v → Alike (some v) (some w)
-  left : (w : ℕ) → is_in_line (taken w) ≡ false → Alike none (some w)
-  reserved : Alike none none
+  read : (v w : ℕ) → v ≡ w → Listed v → Alike (Some v) (Some w)
+  left : (w : ℕ) → is_in_line (taken w) ≡ false → Alike None (Some w)
+  reserved : Alike None None
 
 taken_is : (w o f s t : ℕ) → opcode w ≡ o → funct3 w ≡ f → funct7 w ≡ s → funct6 w ≡ t → taken w ≡ find o f s t w rows
 unfolding taken named find_in
 taken_is w o f s t a b c d = find_renamed (opcode w) (funct3 w) (funct7 w) (funct6 w) w listing ∙ rw (a, b, c, d) refl
 
 reads : (v w o f s t : ℕ) → v ≡ w → v < 2 ^ 32 → opcode v ≡ o → funct3 v ≡ f → funct7 v ≡ s → funct6 v ≡ t
-    → o % 4 ≡ 3 → is_in_line (find o f s t v rows) ≡ true → Alike (some v) (some w)
+    → o % 4 ≡ 3 → is_in_line (find o f s t v rows) ≡ true → Alike (Some v) (Some w)
 reads v w o f s t e l a b c d m k =
     let three : v % 4 ≡ 3 = omega arith in
     read v w e (record { below = l; low = three; is_straight_or_ends = rw (taken_is v o f s t a b c d) k })
 
-leaves : (w o f : ℕ) → opcode w ≡ o → funct3 w ≡ f → is_in_line (find o f (funct7 w) (funct6 w) w rows) ≡ false → Alike none (some w)
+leaves : (w o f : ℕ) → opcode w ≡ o → funct3 w ≡ f → is_in_line (find o f (funct7 w) (funct6 w) w rows) ≡ false → Alike None (Some w)
 leaves w o f a b k = left w (rw (taken_is w o f _ _ a b refl refl) k)
 
 -- a row that asks for a number that is not 0: t and u say whether it is
-unless : (t u : Bool) (v w : ℕ) → t ≡ u → Alike (some v) (some w) → Alike (D.unless t v) (cond (not u) (some w) none)
+unless : (t u : Bool) (v w : ℕ) → t ≡ u → Alike (Some v) (Some w) → Alike (D.unless t v) (cond (not u) (Some w) None)
 unless t u v w e a = rw e (go u)
   where
-    go : (u : Bool) → Alike (D.unless u v) (cond (not u) (some w) none)
+    go : (u : Bool) → Alike (D.unless u v) (cond (not u) (Some w) None)
     go true = reserved
     go false = a
 
 -- C.ADDI16SP and C.LUI: t says whether rd is x2, z, y and x whether the immediate is 0
-upper : (t z y x : Bool) (a b v w : ℕ) → z ≡ y → z ≡ x → Alike (some a) (some v) → Alike (some b) (some w)
-    → Alike (D.unless z (cond t a b)) (cond (t && not y) (some v) (cond (not t && not x) (some w) none))
+upper : (t z y x : Bool) (a b v w : ℕ) → z ≡ y → z ≡ x → Alike (Some a) (Some v) → Alike (Some b) (Some w)
+    → Alike (D.unless z (cond t a b)) (cond (t && not y) (Some v) (cond (not t && not x) (Some w) None))
 upper t z y x a b v w p q k l = rw (← p, ← q) (go t z)
   where
-    go : (t z : Bool) → Alike (D.unless z (cond t a b)) (cond (t && not z) (some v) (cond (not t && not z) (some w) none))
+    go : (t z : Bool) → Alike (D.unless z (cond t a b)) (cond (t && not z) (Some v) (cond (not t && not z) (Some w) None))
     go true true = reserved
     go true false = k
     go false true = reserved
@@ -377,8 +377,8 @@ alike_is (read v w e l) = rw (← e, l.is_straight_or_ends) refl
 alike_is (left w n) = rw n refl
 alike_is reserved = refl
 
-alike_listed : {a m : Option ℕ} → Alike a m → (w : ℕ) → a ≡ some w → Listed w
-alike_listed (read v u e l) w q = subst Listed (some-injective _ _ q) l
+alike_listed : {a m : Option ℕ} → Alike a m → (w : ℕ) → a ≡ Some w → Listed w
+alike_listed (read v u e l) w q = let z : v ≡ w = cc in subst Listed z l
 alike_listed (left u n) w q = absurd (let z : ◌≡◌ {A = ℕ} 0 1 = cc in omega arith)
 alike_listed reserved w q = absurd (let z : ◌≡◌ {A = ℕ} 0 1 = cc in omega arith)
 
@@ -394,11 +394,11 @@ pub expands_to_listed : ExpandsToListed
 unfolding ExpandsToListed
 expands_to_listed h w e = alike_listed (alike h) w (expand_is h ∙ e)
 
-pub in_line_listed : (h w : ℕ) → in_line h ≡ some w → Listed w
+pub in_line_listed : (h w : ℕ) → in_line h ≡ Some w → Listed w
 in_line_listed = unfold ExpandsToListed in expands_to_listed
 
-pub in_line_lt : (h w : ℕ) → in_line h ≡ some w → w < 2 ^ 32
+pub in_line_lt : (h w : ℕ) → in_line h ≡ Some w → w < 2 ^ 32
 in_line_lt h w e = (in_line_listed h w e).below
 
-pub expand_lt : (h w : ℕ) → D.expand h ≡ some w → w < 2 ^ 32
+pub expand_lt : (h w : ℕ) → D.expand h ≡ Some w → w < 2 ^ 32
 expand_lt h w e = (alike_listed (alike h) w e).below

@@ -1,7 +1,7 @@
 -- No block is shorter than 67 or longer than 4,099 bytes.
 use Rattle.std.proofs.Common.{Bool, cond, false, true, List, [], ◌++◌, ◌∷◌, ◌≡◌, refl, ◌%◌, ◌*◌, ◌+◌, ◌-◌, ◌^◌, ◌≤◌, min, suc, zero, ℕ, drop}
+use Rattle.std.specs.Prelude.{Option, None, Some}
 use Rattle.std.proofs.Common.{arith, bit_and, eqb, ltb, length, length-append}
-use Rattle.std.proofs.Math.Option.{Option, none, some}
 use Rattle.agreement.specs.Common.{Helper, Helper.for_access, Helper.for_halfword, greatest, most_steps}
 use Rattle.agreement.specs.Laws.{Lengths}
 use Rattle.agreement.specs.Riscv.Fields.{plus}
@@ -219,8 +219,8 @@ sized_long n pc x [] p s = sized_stops (suc n) pc
 sized_long n pc x (y ∷ hs) p s = sized_emit (kind (Decode32.word_of x y)) n 4 pc (Decode32.word_of x y) p s
 
 sized_short : (o : Option ℕ) (n pc x : ℕ) (p : Walked) → Sized n p → Sized (suc n) (emit_halfword o pc x p)
-sized_short none n pc x p s = sized_helps n for_halfword x pc
-sized_short (some w) n pc x p s = sized_emit (kind w) n 2 pc w p s
+sized_short None n pc x p s = sized_helps n for_halfword x pc
+sized_short (Some w) n pc x p s = sized_emit (kind w) n 2 pc w p s
 
 pub sized : (n pc : ℕ) (hs : List ℕ) → Sized n (walk n pc hs)
 unfolding walk

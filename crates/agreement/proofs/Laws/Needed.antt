@@ -1,6 +1,6 @@
 -- What the number of a word's kind says of the walk, and that a run fetched by it is long enough.
 use Rattle.std.proofs.Common.{◌≡◌, refl, ap, sym, ◌∙◌, ◌≢◌, Bool, true, false, List, [], ◌∷◌, ℕ, zero, suc, min, ◌%◌, arith, bit_and, eqb}
-use Rattle.std.proofs.Math.Option.{Option, none, some}
+use Rattle.std.specs.Prelude.{Option, None, Some}
 use Rattle.agreement.specs.Common.{most_steps}
 use Rattle.agreement.specs.Riscv.Instruction.{Instruction}
 use Rattle.agreement.specs.Riscv.Instruction.Instruction.{op, op_imm, branch, access, unmodelled, LUI, AUIPC, JAL, JALR, FENCE, FENCE_I, other}
@@ -55,8 +55,8 @@ behind_alike k z pc w f l hs e = emit_alike k z pc w (λ s. rw s e)
 
 short_alike : (o : Option ℕ) (pc h : ℕ) (f : List ℕ → Walked) (l hs : List ℕ) → f l ≡ f hs
     → emit_halfword o pc h (f (behind (halfword_kind o) l)) ≡ emit_halfword o pc h (f hs)
-short_alike none pc h f l hs e = refl
-short_alike (some w) pc h f l hs e = behind_alike (kind w) 2 pc w f l hs e
+short_alike None pc h f l hs e = refl
+short_alike (Some w) pc h f l hs e = behind_alike (kind w) 2 pc w f l hs e
 
 walk-needed : (n pc : ℕ) (hs : List ℕ) → walk n pc (needed n hs) ≡ walk n pc hs
 unfolding walk needed
@@ -108,13 +108,13 @@ replied start limit helper16 helper_mem room f p =
 
 pub needs_no_more : NeedsNoMore
 unfolding NeedsNoMore translate
-needs_no_more start limit hs helper16 helper_mem room = decide limit 0 (λ e. rw e refl) some
+needs_no_more start limit hs helper16 helper_mem room = decide limit 0 (λ e. rw e refl) Some
   where
     m : ℕ
     m = min limit most_steps
 
-    some : limit ≢ 0 → translate start limit (needed m hs) helper16 helper_mem room ≡ translate start limit hs helper16 helper_mem room
-    some h =
+    Some : limit ≢ 0 → translate start limit (needed m hs) helper16 helper_mem room ≡ translate start limit hs helper16 helper_mem room
+    Some h =
         ap (λ (f : First). replied start limit helper16 helper_mem room f (walk m start (needed m hs)))
         (first-needed m hs (λ e. h (omega (arith, e))))
         ∙ ap (replied start limit helper16 helper_mem room (first hs)) (walk-needed m start hs)

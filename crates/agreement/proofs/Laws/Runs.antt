@@ -1,7 +1,7 @@
 -- Runs of the guest's code: code that has changed elsewhere has the same run, and every run is the run of some code.
 use Rattle.std.proofs.Common.{◌≡◌, refl, ap, ◌∙◌, ◌≢◌, cond, List, [], ◌∷◌, ℕ, zero, suc, ◌+◌, ◌*◌, ◌/◌, ◌%◌, ◌^◌, ◌≤◌, ◌<◌, arith, eqb, drop}
+use Rattle.std.specs.Prelude.{Option, None, Some}
 use Rattle.std.proofs.Common.{length, sym, take}
-use mathlib.Core.Option.{Option, none, some}
 use Rattle.agreement.specs.Riscv.Code.{Code, SameIn, front, run_at}
 use Rattle.agreement.specs.Riscv.Fields.{plus}
 use Rattle.agreement.specs.Laws.{Halfwords, RunsAlike, RunsHeld}
@@ -52,8 +52,8 @@ front_alike c d pc (suc m) (suc i) (suc j) low a b h =
     go : (o : Option ℕ) → suc m ≤ length (front o (run_at c (plus pc 2) i)) → d pc ≡ o
         → (m ≤ length (run_at c (plus pc 2) i) → take m (run_at d (plus pc 2) j) ≡ take m (run_at c (plus pc 2) i))
         → take (suc m) (front (d pc) (run_at d (plus pc 2) j)) ≡ take (suc m) (front o (run_at c (plus pc 2) i))
-    go none s e r = absurd (omega (arith, s))
-    go (some x) s e r = rw e (ap (λ (l : List ℕ). x % 2 ^ 16 ∷ l) (r (omega (arith, s))))
+    go None s e r = absurd (omega (arith, s))
+    go (Some x) s e r = rw e (ap (λ (l : List ℕ). x % 2 ^ 16 ∷ l) (r (omega (arith, s))))
 
 -- a run is made of halfwords, whatever the code
 pub run_halfwords : (c : Code) (pc n : ℕ) → Halfwords (run_at c pc n)
@@ -62,8 +62,8 @@ run_halfwords c pc zero = tt
 run_halfwords c pc (suc n) = go (c pc) (run_halfwords c (plus pc 2) n)
   where
     go : (o : Option ℕ) → Halfwords (run_at c (plus pc 2) n) → Halfwords (front o (run_at c (plus pc 2) n))
-    go none r = tt
-    go (some h) r = (omega arith, r)
+    go None r = tt
+    go (Some h) r = (omega arith, r)
 
 -- the front of a run of halfwords, and what follows it
 pub halfwords_front : (g : ℕ) (hs : List ℕ) → Halfwords (g ∷ hs) → g < 2 ^ 16
@@ -85,8 +85,8 @@ runs_alike = alike
 
 -- the code that has the run hs at pc, and nothing else
 abbrev pub held : ℕ → List ℕ → Code
-held pc [] x = none
-held pc (h ∷ hs) x = cond (eqb x pc) (some h) (held (plus pc 2) hs x)
+held pc [] x = None
+held pc (h ∷ hs) x = cond (eqb x pc) (Some h) (held (plus pc 2) hs x)
 
 held_run : (pc : ℕ) (hs : List ℕ) → pc < 2 ^ 64 → length hs ≤ 2 ^ 63 → Halfwords hs → run_at (held pc hs) pc (length hs) ≡ hs
 unfolding run_at Halfwords

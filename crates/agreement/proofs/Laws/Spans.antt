@@ -1,7 +1,7 @@
 -- A block spans what its instructions were read from: whoever reads as many instructions as it counts, of any run that has the same
 -- there, reads the same.
 use Rattle.std.proofs.Common.{◌≡◌, refl, sym, ap, ◌∙◌, Bool, true, false, List, [], ◌∷◌, ℕ, zero, suc, ◌+◌, ◌*◌, ◌≤◌, ◌≢◌, true≢false, arith, length, take}
-use Rattle.std.proofs.Math.Option.{Option, none, some}
+use Rattle.std.specs.Prelude.{Option, None, Some}
 use Rattle.std.proofs.Common.{subst, drop}
 use Rattle.agreement.specs.Common.{Helper.for_halfword}
 use Rattle.agreement.specs.Riscv.Fields.{plus}
@@ -75,7 +75,7 @@ stands_long h u hs e = record {
   begins = λ t. accept_word h u hs e t;
 }
 
-stands_short : (h w : ℕ) (hs : List ℕ) → is_long h ≡ false → in_line h ≡ some w → Stands 1 w (h ∷ hs) hs
+stands_short : (h w : ℕ) (hs : List ℕ) → is_long h ≡ false → in_line h ≡ Some w → Stands 1 w (h ∷ hs) hs
 stands_short h w hs e i = record {
   long = omega arith;
   read = λ n pc x. read_half n pc h hs x e ∙ rw i refl;
@@ -96,7 +96,7 @@ long_again h u hs e k (a ∷ b ∷ l) s =
       same = r;
     }
 
-short_again : (h w : ℕ) (hs : List ℕ) → is_long h ≡ false → in_line h ≡ some w → (k : ℕ) (hs' : List ℕ)
+short_again : (h w : ℕ) (hs : List ℕ) → is_long h ≡ false → in_line h ≡ Some w → (k : ℕ) (hs' : List ℕ)
     → take (suc k) hs' ≡ h ∷ take k hs → Again 1 w k hs hs'
 short_again h w hs e i k [] s = absurd (cc)
 short_again h w hs e i k (a ∷ l) s =
@@ -110,7 +110,7 @@ long_everywhere h u hs e k hs' s =
     let n : k + 2 ≡ suc (suc k) = omega arith in
     long_again h u hs e k hs' (subst (λ y. take y hs' ≡ take y (h ∷ u ∷ hs)) n s)
 
-short_everywhere : (h w : ℕ) (hs : List ℕ) → is_long h ≡ false → in_line h ≡ some w → Everywhere 1 w (h ∷ hs) hs
+short_everywhere : (h w : ℕ) (hs : List ℕ) → is_long h ≡ false → in_line h ≡ Some w → Everywhere 1 w (h ∷ hs) hs
 unfolding Everywhere
 short_everywhere h w hs e i k hs' s =
     let n : k + 1 ≡ suc k = omega arith in
@@ -216,7 +216,7 @@ module _ (n pc m w : ℕ) (hs rest : List ℕ) (low : 1 ≤ m) (high : m ≤ 2) 
 -- 3. The walk
 
 -- a helper takes a halfword
-helped : (n pc h : ℕ) (hs : List ℕ) → is_long h ≡ false → in_line h ≡ none → Spanning (suc n) pc (h ∷ hs) (helps for_halfword h pc)
+helped : (n pc h : ℕ) (hs : List ℕ) → is_long h ≡ false → in_line h ≡ None → Spanning (suc n) pc (h ∷ hs) (helps for_halfword h pc)
 unfolding counted
 helped n pc h hs short i = record {
   halfwords = 1;
@@ -245,13 +245,13 @@ halfword : (n pc h : ℕ) (hs : List ℕ) (p : Walked) → is_long h ≡ false �
     → Spanning (suc n) pc (h ∷ hs) (emit_halfword (in_line h) pc h p)
 halfword n pc h hs p short s = go (in_line h) refl
   where
-    in_line_taken : (w : ℕ) → in_line h ≡ some w → is_in_line (taken w) ≡ false
+    in_line_taken : (w : ℕ) → in_line h ≡ Some w → is_in_line (taken w) ≡ false
         → ◌≡◌ {A = ℕ} 1 2 × (first_refused (h ∷ hs) ≡ is_not_taken (taken w))
     in_line_taken w i f = absurd (true≢false (sym (in_line_listed h w i).is_straight_or_ends ∙ f))
 
     go : (o : Option ℕ) → in_line h ≡ o → Spanning (suc n) pc (h ∷ hs) (emit_halfword o pc h p)
-    go none i = helped n pc h hs short i
-    go (some w) i = rw (kind_is w)
+    go None i = helped n pc h hs short i
+    go (Some w) i = rw (kind_is w)
         (instruction n pc 1 w (h ∷ hs) hs (omega arith) (omega arith) (stands_short h w hs short i) (short_everywhere h w hs short i)
         (in_line_taken w i) (taken w) p refl s)
 

@@ -1,6 +1,6 @@
 -- What the theorem says of one turn of a known kind: how the manual's state goes on, how the block was entered, and all that holds of it.
 use Rattle.std.proofs.Common.{false, true, ◌∙◌, ◌≡◌, refl, sym, ◌*◌, ◌+◌, ℕ, arith, length}
-use mathlib.Core.Option.{Option, none, some}
+use Rattle.std.specs.Prelude.{Option, None, Some}
 use Rattle.agreement.specs.Common.{Helper}
 use Rattle.agreement.specs.Riscv.Run.{Feed, GuestState, Left, Read, Stop.called, Stop.plain, read_turn, turn}
 use Rattle.agreement.specs.Translation.Replies.{Block, Reply.block}
@@ -22,20 +22,20 @@ plain_not_called e = let z : ◌≡◌ {A = ℕ} 0 1 = cc in omega arith
 
 -- the turn as the manual's run reads it
 abbrev pub read_as : Turn → GuestState → Read
-read_as t m = read_turn (feed_of t none) m
+read_as t m = read_turn (feed_of t None) m
 
-plain_of : (t : Turn) (n : ℕ) (v : Visit) (q : Read) → Entered t n v q none → Plain t n v q
+plain_of : (t : Turn) (n : ℕ) (v : Visit) (q : Read) → Entered t n v q None → Plain t n v q
 unfolding Entered
 plain_of t n v q h = h
 
-helped_of : (t : Turn) (n : ℕ) (v : Visit) (q : Read) (c : Call) → Entered t n v q (some c) → Helped t n v c q
+helped_of : (t : Turn) (n : ℕ) (v : Visit) (q : Read) (c : Call) → Entered t n v q (Some c) → Helped t n v c q
 unfolding Entered
 helped_of t n v q c h = h
 
 -- a refused turn changes nothing
 pub after_refused : (m : GuestState) (t : Turn) (e : Event) → is_refused t m ≡ true → At m t e → turn (feed t e) m ≡ m
 unfolding At feed
-after_refused m t (rejected pc r) f a = turn_refused (feed_of t none) m (unfold feed_of in f)
+after_refused m t (rejected pc r) f a = turn_refused (feed_of t None) m (unfold feed_of in f)
 after_refused m t (visited pc n v) f a = absurd (true_not_false (sym f ∙ a.0.accepted))
 
 pub refused_x0 : (m : GuestState) (t : Turn) (e : Event) → is_refused t m ≡ true → At m t e → m.registers 0 ≡ 0
@@ -74,15 +74,15 @@ after_plain_lem m f st (skip e) a = absurd (true_not_false (sym a.refuses ∙ f)
 after_plain_lem {pc = pc} {rb = rb} {t = t} m f st (visit {b = b} {v = v} e w) a = go v.call refl a.1
   where
     go : (c : Option Call) → v.call ≡ c → Entered t b.count v (read_as t m) c → WentPlainly m t (visited pc b.count v)
-    go none q k = record {
-      turned = rw q (turn_plain (feed_of t none) m (unfold feed_of in f) st);
+    go None q k = record {
+      turned = rw q (turn_plain (feed_of t None) m (unfold feed_of in f) st);
       was = record { pc = pc; rb = rb; b = b; v = v; reply_is = e; event = refl; entry = went_entry t w; returns = a.0 };
       says = plain_of t b.count v (read_as t m) k;
     }
-    go (some c) q k = absurd (plain_not_called (sym st ∙ (helped_of t b.count v (read_as t m) c k).stop))
+    go (Some c) q k = absurd (plain_not_called (sym st ∙ (helped_of t b.count v (read_as t m) c k).stop))
 
 -- a helper's return is what the helper makes of its entry
-went_back : (t : Turn) {s : State} {v : Visit} (c : Call) → Went t s v → v.call ≡ some c → c.back ≡ t.helper c.inside
+went_back : (t : Turn) {s : State} {v : Visit} (c : Call) → Went t s v → v.call ≡ Some c → c.back ≡ t.helper c.inside
 went_back t c (plainly g b) e = absurd (let z : ◌≡◌ {A = ℕ} 0 1 = cc in omega arith)
 went_back t c (helped {u = u} {a = a} g b h d) e =
     let q : ◌≡◌ {A = Call} (record { before = u; inside = a; back = t.helper a }) c = cc in
@@ -93,11 +93,11 @@ abbrev pub after_helper : Turn → State → GuestState
 after_helper t a = record { registers = λ r. read 8 (t.helper a).mem (t.base + 8 * r); pc = (t.helper a).regs RAX; count = 0 }
 
 after_call : (t : Turn) (m : GuestState) (c : Call) (h : Helper) (i : ℕ) → is_refused t m ≡ false → (read_as t m).stop ≡ called h i
-    → c.back ≡ t.helper c.inside → turn (feed_of t (some c)) m ≡ after_helper t c.inside
+    → c.back ≡ t.helper c.inside → turn (feed_of t (Some c)) m ≡ after_helper t c.inside
 unfolding feed_of left_by
 after_call t m c h i f st z =
     let l : Left = record { slots = λ r. read 8 c.back.mem (t.base + 8 * r); rax = c.back.regs RAX } in
-    let g : Feed = record { limit = t.limit; code = t.code; reach = t.reach; room = length t.output; left = some l } in
+    let g : Feed = record { limit = t.limit; code = t.code; reach = t.reach; room = length t.output; left = Some l } in
     turn_called g m h i l f st refl ∙ rw z
 
 pub record WentHelped (m : GuestState) (t : Turn) (e : Event) : Type 0 where
@@ -114,8 +114,8 @@ after_helper_lem m h i f st (skip e) a = absurd (true_not_false (sym a.refuses �
 after_helper_lem {pc = pc} {rb = rb} {t = t} m h i f st (visit {b = b} {v = v} e w) a = go v.call refl a.1
   where
     go : (c : Option Call) → v.call ≡ c → Entered t b.count v (read_as t m) c → WentHelped m t (visited pc b.count v)
-    go none q k = absurd (plain_not_called (sym (plain_of t b.count v (read_as t m) k).stop ∙ st))
-    go (some c) q k =
+    go None q k = absurd (plain_not_called (sym (plain_of t b.count v (read_as t m) k).stop ∙ st))
+    go (Some c) q k =
         let z : c.back ≡ t.helper c.inside = went_back t c w q in
         record {
           call = c;

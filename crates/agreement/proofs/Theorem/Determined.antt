@@ -1,6 +1,6 @@
 -- A list of turns has no second history.
 use Rattle.std.proofs.Common.{List, ◌≢◌, ◌∙◌, ◌≡◌, ap, refl, subst, sym, suc, ℕ, arith}
-use mathlib.Core.Option.{some}
+use Rattle.std.specs.Prelude.{Some}
 use Rattle.agreement.specs.Translation.Replies.{Block, Refusal, Reply.block, Reply.refusal}
 use Rattle.agreement.specs.Statement.Machine.{By, Event, History, RegisterBytes, Turn, Turned, Visit, Went, enter}
 use Rattle.agreement.specs.Statement.Machine.History.{end, then}
@@ -20,7 +20,7 @@ record Once (s t : State) (ws vs : List ℕ) : Type 0 where
   log : ws ≡ vs
 
 once : (undefined : State → Flags) (ok : Permissions) (s : State) {t u : State} {ws vs : List ℕ}
-    → step undefined ok s ≡ some (t, ws) → step undefined ok s ≡ some (u, vs) → Once t u ws vs
+    → step undefined ok s ≡ Some (t, ws) → step undefined ok s ≡ Some (u, vs) → Once t u ws vs
 once undefined ok s {t = t} {u = u} {ws = ws} {vs = vs} p q =
     let r : ◌≡◌ {A = State × List ℕ} (t, ws) (u, vs) = cc in
     record { state = ap (λ (z : State × List ℕ). z.0) r; log = ap (λ (z : State × List ℕ). z.1) r }
@@ -32,14 +32,14 @@ data Turns : Instr → Type 0 where
 
 record Halts (ok : Permissions) (s : State) : Type 0 where
   f : Fetch
-  fetch : next ok s ≡ some f
+  fetch : next ok s ≡ Some f
   turns : Turns f.instr
 
 turns_clash : {i : Instr} → Turns i → i ≢ call_rax → i ≢ ret → ⊥
 turns_clash by_call c r = c refl
 turns_clash by_ret c r = r refl
 
-clash : (ok : Permissions) (s : State) (f : Fetch) → next ok s ≡ some f → f.instr ≢ call_rax → f.instr ≢ ret → Halts ok s → ⊥
+clash : (ok : Permissions) (s : State) (f : Fetch) → next ok s ≡ Some f → f.instr ≢ call_rax → f.instr ≢ ret → Halts ok s → ⊥
 clash ok s f e c r h = let q : h.f ≡ f = cc in turns_clash (rw q at h.turns) c r
 
 goes_once : (undefined : State → Flags) (ok : Permissions) {s t u : State} {n m : ℕ} {ws vs : List ℕ}
@@ -70,7 +70,7 @@ instr_once t i j b d =
     let q : f ≡ g = some_eq (sym b.fetch ∙ d.fetch) in
     ap (λ (f : Fetch). f.instr) q
   where
-    some_eq : {x y : Fetch} → some x ≡ some y → x ≡ y
+    some_eq : {x y : Fetch} → Some x ≡ Some y → x ≡ y
     some_eq e = cc
 
 not_call : ret ≡ call_rax → ⊥

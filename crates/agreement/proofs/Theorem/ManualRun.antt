@@ -1,7 +1,7 @@
 -- The manual's run by itself: it keeps x0 and a 64-bit pc, and how a turn changes its state.
 use Rattle.std.proofs.Common.{Bool, cond, false, true, List, [], ◌∷◌, ◌∙◌, ◌≡◌, refl, sym, ◌+◌, ◌<◌, ◌^◌, suc, zero, ℕ, arith, eqb, drop}
+use Rattle.std.specs.Prelude.{Option, None, Some}
 use native.Mathlib.Decide.{ℕ_discrete}
-use Rattle.std.proofs.Math.Option.{Option, none, some}
 use Rattle.agreement.specs.Common.{Helper}
 use Rattle.agreement.specs.Riscv.Fields.{plus, rd, rs1, rs2}
 use Rattle.agreement.specs.Riscv.Instruction.{Instruction, branches}
@@ -55,8 +55,8 @@ stays_long pc g (u ∷ hs) x k h f = stays_does (taken (word_of g u)) 4 pc (word
 
 stays_short : (o : Option ℕ) (pc g : ℕ) (x : Registers) (k : Registers → Read)
     → pc < 2 ^ 64 → ((x : Registers) → Stays x (k x)) → Stays x (does_halfword o pc g x k)
-stays_short none pc g x k h f = record { x0 = refl; low = h }
-stays_short (some w) pc g x k h f = stays_does (taken w) 2 pc w x k h f
+stays_short None pc g x k h f = record { x0 = refl; low = h }
+stays_short (Some w) pc g x k h f = stays_does (taken w) 2 pc w x k h f
 
 pub stays : (n pc : ℕ) (hs : List ℕ) (x : Registers) → pc < 2 ^ 64 → Stays x (reading n pc hs x)
 unfolding reading
@@ -82,7 +82,7 @@ unfolding turn settle
 turn_plain f m e p = rw (e, turn) (rw p)
 
 pub turn_called : (f : Feed) (m : GuestState) (h : Helper) (i : ℕ) (l : Left) → refused f.limit m.pc (run_of f m) f.room ≡ false
-    → (read_turn f m).stop ≡ called h i → f.left ≡ some l → turn f m ≡ record { registers = l.slots; pc = l.rax; count = 0 }
+    → (read_turn f m).stop ≡ called h i → f.left ≡ Some l → turn f m ≡ record { registers = l.slots; pc = l.rax; count = 0 }
 unfolding turn settle resume
 turn_called f m h i l e p q = rw (e, turn) (rw p (rw q))
 

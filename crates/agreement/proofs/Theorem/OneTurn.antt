@@ -1,7 +1,7 @@
 -- One turn that is not refused: its block is entered and returns, and the manual's run goes the same way.
 use Rattle.std.proofs.Common.{Bool, ◌&&◌, ◌||◌, cond, false, true, List, [], ◌++◌, ◌∷◌, ◌∙◌, ◌≡◌, ap, refl, subst, sym, ◌*◌, ◌+◌, ◌-◌, ◌<◌}
+use Rattle.std.specs.Prelude.{Option, None, Some}
 use Rattle.std.proofs.Common.{◌^◌, ◌≤◌, min, suc, ℕ, arith, eqb, leb, ltb, length}
-use mathlib.Core.Option.{Option, none, some}
 use Rattle.agreement.specs.Common.{Helper, Helper.for_access, Helper.for_halfword, most_steps}
 use Rattle.agreement.specs.Riscv.Run.{Feed, GuestState, Left, Read, Registers, Stop.called, Stop.plain, read_turn, reading, turn}
 use Rattle.agreement.specs.Translation.Emit.{add_count, closing, opening, passes}
@@ -166,7 +166,7 @@ block_long h1 h2 p = omega arith
 
 -- one step by this instruction
 by_step : (t : Turn) (i : Instr) {u v : State} {ws : List ℕ}
-    → next t.ok u ≡ some (fetch i) → step t.undefined t.ok u ≡ some (v, ws) → By t i u v ws
+    → next t.ok u ≡ Some (fetch i) → step t.undefined t.ok u ≡ Some (v, ws) → By t i u v ws
 by_step t i f d = record { size = length (encode i); fetch = f; does = d }
 
 -- a helper's promise, as the stages use it
@@ -214,10 +214,10 @@ module _ (t : Turn) (m : GuestState) (rb : RegisterBytes) (ty : Typed t) (un : U
   limit = min t.limit most_steps
 
   abbrev q : Read
-  q = read_turn (feed_of t none) m
+  q = read_turn (feed_of t None) m
 
   -- the manual's run reads the code; the block was made from the same run
-  q_is : read_turn (feed_of t none) m ≡ reading limit m.pc t.made m.registers
+  q_is : read_turn (feed_of t None) m ≡ reading limit m.pc t.made m.registers
   unfolding feed_of
   q_is = ap (λ (hs : List ℕ). reading limit m.pc hs m.registers) (sym un)
 
@@ -312,11 +312,11 @@ module _ (t : Turn) (m : GuestState) (rb : RegisterBytes) (ty : Typed t) (un : U
         → q.stop ≡ plain → b.count ≡ q.added → Done t m rb
     plain_done l st ct = record {
       b = b;
-      v = record { entry = s0; call = none; exit = l.t; steps = suc l.n; log = l.way.ws ++ [] };
+      v = record { entry = s0; call = None; exit = l.t; steps = suc l.n; log = l.way.ws ++ [] };
       reply_is = re;
       went = unfold s0 in plainly l.way.goes (by_step t ret l.fetch l.does);
       at = unfold At Entered in (
-        returns_by l.w l.t (suc l.n) (l.way.ws ++ []) none
+        returns_by l.w l.t (suc l.n) (l.way.ws ++ []) None
             (slot_zero l.t (q.registers 0) (rw l.exit.same (l.slots 0 (omega arith))) (kept.x0 ∙ zero0)) l.exit l.steps
             (all_append (own t) l.way.ws [] l.way.own no_log),
         record {
@@ -330,7 +330,7 @@ module _ (t : Turn) (m : GuestState) (rb : RegisterBytes) (ty : Typed t) (un : U
         },
       );
       m2 = record { registers = q.registers; pc = q.pc; count = m.count + q.added };
-      turned = unfold feed feed_of in turn_plain (feed_of t none) m (unfold feed_of in rf) st;
+      turned = unfold feed feed_of in turn_plain (feed_of t None) m (unfold feed_of in rf) st;
       pcs = l.exit.rax ∙ l.rax;
       counts = unfold plus_rdx in rw (l.exit.rdx ∙ l.rdx);
       slots = λ r k. slot_after t l.t.mem r ly.base_fits k ∙ rw l.exit.same (l.slots r k);
@@ -344,7 +344,7 @@ module _ (t : Turn) (m : GuestState) (rb : RegisterBytes) (ty : Typed t) (un : U
 
     -- what the turn feeds to the manual's run, what the helper left among it
     abbrev fed : Left → Feed
-    fed l = record { limit = t.limit; code = t.code; reach = t.reach; room = length t.output; left = some l }
+    fed l = record { limit = t.limit; code = t.code; reach = t.reach; room = length t.output; left = Some l }
 
     target_is : (k : Helper) → helper_at k t.helper16 t.helper_mem ≡ helper_of t k
     target_is for_halfword = refl
@@ -362,7 +362,7 @@ module _ (t : Turn) (m : GuestState) (rb : RegisterBytes) (ty : Typed t) (un : U
           b = b;
           v = record {
             entry = s0;
-            call = some (record { before = c.u; inside = a; back = h });
+            call = Some (record { before = c.u; inside = a; back = h });
             exit = r.t;
             steps = suc c.n + suc r.m;
             log = (c.way.ws ++ c.call.ws) ++ (r.way.ws ++ []);

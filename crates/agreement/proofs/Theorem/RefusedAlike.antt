@@ -1,7 +1,7 @@
 -- The table of replies and the manual's own reading of it refuse the same turns; bounds of a walk.
 use Rattle.std.proofs.Common.{Bool, cond, false, true, List, [], ◌∷◌, ◌∙◌, ◌≡◌, refl, subst, sym, ◌%◌, ◌<◌, ◌^◌, ◌≤◌, suc, zero, ℕ, arith, drop}
+use Rattle.std.specs.Prelude.{Option, None, Some}
 use Rattle.std.proofs.Common.{bit_and, eqb, ltb}
-use Rattle.std.proofs.Math.Option.{Option, none, some}
 use Rattle.agreement.specs.Common.{greatest}
 use Rattle.agreement.specs.Riscv.Fields.{plus}
 use Rattle.agreement.specs.Riscv.Instruction.{Instruction}
@@ -146,8 +146,8 @@ short_ok : (n pc x : ℕ) (p : Walked) → pc < 2 ^ 64 → x < 2 ^ 16 → Bounds
 short_ok n pc x p h l s = rw (expand_is x) (go (in_line x) refl)
   where
     go : (o : Option ℕ) → in_line x ≡ o → Bounds (suc n) (emit_halfword o pc x p)
-    go none e = unfold EndOk in omega (arith, l)
-    go (some w) e = emit_ok (kind w) n 2 pc w p h (in_line_lt x w e) s
+    go None e = unfold EndOk in omega (arith, l)
+    go (Some w) e = emit_ok (kind w) n 2 pc w p h (in_line_lt x w e) s
 
 pub walk_ok : (n pc : ℕ) (hs : List ℕ) → pc < 2 ^ 64 → Halfwords hs → Bounds n (walk n pc hs)
 unfolding walk EndOk

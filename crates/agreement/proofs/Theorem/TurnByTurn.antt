@@ -1,6 +1,6 @@
 -- One turn, refused or entered, leads where the manual's run goes.
 use Rattle.std.proofs.Common.{true, List, ◌∷◌, ◌≡◌, refl, ◌*◌, ◌<◌, ◌^◌, ℕ, length}
-use mathlib.Core.Option.{none}
+use Rattle.std.specs.Prelude.{None}
 use Rattle.agreement.specs.Riscv.Run.{GuestState, turn}
 use Rattle.agreement.specs.Translation.Replies.{Block, Refusal, Reply.block, Reply.refusal}
 use Rattle.agreement.specs.Statement.Agreement.{At, feed, feed_of, is_refused, left_by}
@@ -41,7 +41,7 @@ skipped t m rb r e f low sl z = record {
   turned = skip e;
   at = unfold At in record { refuses = f; at_pc = refl; x0 = z };
   m2 = m;
-  is = unfold feed feed_of left_by in turn_refused (feed_of t none) m (unfold feed_of in f);
+  is = unfold feed feed_of left_by in turn_refused (feed_of t None) m (unfold feed_of in f);
   pcs = refl;
   counts = λ es. unfold since in refl;
   slots = sl;

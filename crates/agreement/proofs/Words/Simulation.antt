@@ -1,6 +1,6 @@
 -- The walk's code against the manual's reading: one lemma per instruction, then the run of halfwords.
 use Rattle.std.proofs.Common.{Bool, false, true, List, [], ◌∷◌, ◌≡◌, ap, refl, subst, sym, ◌+◌, ◌<◌, ◌^◌, ◌≤◌, suc, zero, ℕ, arith, length, drop}
-use Rattle.std.proofs.Math.Option.{Option, none, some}
+use Rattle.std.specs.Prelude.{Option, None, Some}
 use Rattle.agreement.specs.Common.{Helper, Helper.for_access, Helper.for_halfword}
 use Rattle.agreement.specs.Riscv.Fields.{opcode, plus, rd, rs1, rs2, shamt5, shamt6}
 use Rattle.agreement.specs.Riscv.Instruction.{Branch, Instruction, Op, OpImm, value_op, value_op_imm}
@@ -233,8 +233,8 @@ module _ (undefined : State → Flags) (b : ℕ) (fits : b + 256 ≤ 2 ^ 64) whe
   agree_short pc g p x k s h f = rw (expand_is g) (by (in_line g) refl)
     where
       by : (o : Option ℕ) → in_line g ≡ o → Agree (emit_halfword o pc g p) (does_halfword o pc g x k) s
-      by none e = calling for_halfword g pc x s h
-      by (some w) e =
+      by None e = calling for_halfword g pc x s h
+      by (Some w) e =
           rw (kind_is w) (agree_word (taken w) 2 pc w p x k s (in_line_lt g w e) h f)
 
   pub agree : (n pc : ℕ) (hs : List ℕ) (x : Registers) (s : State) → Halfwords hs → Slots b x s → Agree (walk n pc hs) (reading n pc hs x) s

@@ -1,6 +1,6 @@
 -- Only words that divide have jumps: where a turn meets none of them, its block has no jump.
 use Rattle.std.proofs.Common.{Bool, cond, false, true, List, [], ◌++◌, ◌∷◌, ◌≡◌, refl, subst, sym, ◌*◌, suc, zero, ℕ, arith, eqb, drop}
-use Rattle.std.proofs.Math.Option.{Option, none, some}
+use Rattle.std.specs.Prelude.{Option, None, Some}
 use Rattle.agreement.specs.Laws.{Halfwords}
 use Rattle.agreement.specs.Riscv.Run.{is_long, taken, word_of, in_line}
 use Rattle.agreement.specs.Statement.Steps.{divides, undivided, unless_dividing, undivided_halfword, undivided_word}
@@ -140,8 +140,8 @@ long pc x (y ∷ hs) p rest l f h =
 short : (o : Option ℕ) (pc x : ℕ) (p : Walked) (rest : Bool) → (rest ≡ true → jumpless p.code ≡ true)
     → undivided_halfword o rest ≡ true → jumpless (emit_halfword o pc x p).code ≡ true
 unfolding jumpless
-short none pc x p rest f h = refl
-short (some w) pc x p rest f h = rw (kind_is w) (word (taken w) 2 pc w p rest f h)
+short None pc x p rest f h = refl
+short (Some w) pc x p rest f h = rw (kind_is w) (word (taken w) 2 pc w p rest f h)
 
 words : (n pc : ℕ) (hs : List ℕ) → Halfwords hs → undivided n hs ≡ true → jumpless (walk n pc hs).code ≡ true
 unfolding undivided walk jumpless

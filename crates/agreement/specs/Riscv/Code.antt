@@ -1,7 +1,6 @@
 -- The guest's code: what can be fetched, address by address. Document 02, Q-1: it may change from turn to turn; Q-5: elsewhere than in
 -- some bytes.
-use Rattle.std.specs.Prelude.{◌≡◌, List, [], ◌∷◌, ℕ, zero, suc, ◌+◌, ◌*◌, ◌%◌, ◌^◌, ◌<◌}
-use Rattle.std.proofs.Math.Option.{Option, none, some}
+use Rattle.std.specs.Prelude.{◌≡◌, List, [], ◌∷◌, ℕ, zero, suc, ◌+◌, ◌*◌, ◌%◌, ◌^◌, ◌<◌, Option, None, Some}
 use Rattle.agreement.specs.Riscv.Fields.{plus}
 
 -- at each address a halfword, the lower byte first, or none where nothing can be fetched
@@ -10,8 +9,8 @@ Code = ℕ → Option ℕ
 
 -- what an address has, before the rest of a run: where there is none, the run ends. A halfword is the low 16 bits of the number
 abbrev pub front : Option ℕ → List ℕ → List ℕ
-front none rest = []
-front (some h) rest = h % 2 ^ 16 ∷ rest
+front None rest = []
+front (Some h) rest = h % 2 ^ 16 ∷ rest
 
 -- the run at pc: what the code has from there on, at most n halfwords, up to the first that is not there. "The address space
 -- is circular" (Introduction, "Memory"): addresses are modulo 2^64

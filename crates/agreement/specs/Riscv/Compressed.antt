@@ -2,8 +2,7 @@
 -- format. The comment behind a row has the manual's names of halfword and word.
 -- RISC-V Unprivileged manual (20191213): chapter "C", and "RVC Instruction Set Listings" for what is reserved and what is a hint.
 -- Rows for RV32 or RV128 alone (C.JAL, C.LQ, C.FLW and the like) are not of RV64. A hint is what its row expands to.
-use Rattle.std.specs.Prelude.{Bool, true, not, cond, ◌&&◌, List, [], ◌∷◌, ℕ, suc, ◌+◌, ◌-◌, ◌*◌, ◌^◌, eqb}
-use Rattle.std.proofs.Math.Option.{Option, none, some}
+use Rattle.std.specs.Prelude.{Bool, true, not, cond, ◌&&◌, List, [], ◌∷◌, ℕ, suc, ◌+◌, ◌-◌, ◌*◌, ◌^◌, eqb, Option, None, Some}
 use Rattle.agreement.specs.Riscv.Fields.{bits}
 use Rattle.agreement.specs.Riscv.Immediates.{sign_extend}
 
@@ -68,8 +67,8 @@ row f a w = record { three = f; asks = a; word = w }
 
 -- the row that fits; no two fit one halfword
 unfoldable pub find : ℕ → List Row → Option ℕ
-find f [] = none
-find f (r ∷ rs) = cond (eqb f r.three && r.asks) (some r.word) (find f rs)
+find f [] = None
+find f (r ∷ rs) = cond (eqb f r.three && r.asks) (Some r.word) (find f rs)
 
 abbrev pub sp : ℕ
 sp = 2
@@ -195,7 +194,7 @@ module _ (h : ℕ) where
 -- by op, which is 3 in a word of 32 bits, and funct3
 unfoldable pub expansion_by : ℕ → ℕ → ℕ → Option ℕ
 expansion_by o f h =
-    cond (eqb o 0) (find f (quadrant_0 h)) (cond (eqb o 1) (find f (quadrant_1 h)) (cond (eqb o 2) (find f (quadrant_2 h)) none))
+    cond (eqb o 0) (find f (quadrant_0 h)) (cond (eqb o 1) (find f (quadrant_1 h)) (cond (eqb o 2) (find f (quadrant_2 h)) None))
 
 -- the word that a halfword expands to; `none`: it is reserved, or not compressed
 unfoldable pub expansion : ℕ → Option ℕ

@@ -1,8 +1,7 @@
 -- The manual's run. Document 01, "The manual's run in demand 3", "Words taken" and "Replies"; meanings from the manual.
 -- It uses no definition of the translator or the host: it is fed a turn's code, how far that was fetched, the limit and the output's
 -- length, and what a helper left.
-use Rattle.std.specs.Prelude.{Bool, true, false, cond, ◌||◌, List, [], ◌∷◌, ℕ, zero, suc, ◌+◌, ◌*◌, ◌/◌, ◌%◌, min, drop, ltb, eqb}
-use Rattle.std.proofs.Math.Option.{Option, none, some}
+use Rattle.std.specs.Prelude.{Bool, true, false, cond, ◌||◌, List, [], ◌∷◌, ℕ, zero, suc, ◌+◌, ◌*◌, ◌/◌, ◌%◌, min, drop, ltb, eqb, Option, None, Some}
 use Rattle.agreement.specs.Common.{greatest, most_steps, Length.long, Length.short, size, Helper, Helper.for_halfword, Helper.for_access}
 use Rattle.agreement.specs.Riscv.Code.{Code, run_at}
 use Rattle.agreement.specs.Riscv.Fields.{rd, rs1, rs2, shamt6, shamt5, plus}
@@ -52,8 +51,8 @@ is_in_line (unmodelled u) = false
 is_in_line other = false
 
 unfoldable pub if_in_line : Option ℕ → Option ℕ
-if_in_line none = none
-if_in_line (some w) = cond (is_in_line (taken w)) (some w) none
+if_in_line None = None
+if_in_line (Some w) = cond (is_in_line (taken w)) (Some w) None
 
 -- the word that a halfword is read as; `none`: it is a helper ending
 unfoldable pub in_line : ℕ → Option ℕ
@@ -125,8 +124,8 @@ does_word pc h (u ∷ hs) x rest = does (taken (word_of h u)) (size long) pc (wo
 
 -- the halfword h at pc: what the word does that it is read as, or a helper ending
 abbrev pub does_halfword : Option ℕ → ℕ → ℕ → Registers → (Registers → Read) → Read
-does_halfword none pc h x rest = help x pc for_halfword h
-does_halfword (some w) pc h x rest = does (taken w) (size short) pc w x rest
+does_halfword None pc h x rest = help x pc for_halfword h
+does_halfword (Some w) pc h x rest = does (taken w) (size short) pc w x rest
 
 -- at most n instructions, read from the run of halfwords that stands at pc
 unfoldable pub reading : ℕ → ℕ → List ℕ → Registers → Read
@@ -180,8 +179,8 @@ read_turn f s = reading (min f.limit most_steps) s.pc (run_of f s) s.registers
 
 -- after a helper ending the run goes on from what the helper left (the agreement shows that it is then fed)
 unfoldable pub resume : Option Left → GuestState → GuestState
-resume none s = s
-resume (some l) s = record { registers = l.slots; pc = l.rax; count = 0 }
+resume None s = s
+resume (Some l) s = record { registers = l.slots; pc = l.rax; count = 0 }
 
 unfoldable pub settle : Feed → GuestState → Read → Stop → GuestState
 settle f s r plain = record { registers = r.registers; pc = r.pc; count = s.count + r.added }

@@ -1,6 +1,5 @@
 -- The statement of demand 3: the machine's history beside the manual's run. Document 01, "What is equal to it".
-use Rattle.std.specs.Prelude.{◌≡◌, Bool, true, false, ◌&&◌, ◌||◌, List, [], ◌∷◌, ℕ, suc, min, ◌+◌, ◌-◌, ◌*◌, ◌%◌, ◌^◌, ◌<◌, length, leb, ltb}
-use Rattle.std.proofs.Math.Option.{Option, none, some}
+use Rattle.std.specs.Prelude.{◌≡◌, Bool, true, false, ◌&&◌, ◌||◌, List, [], ◌∷◌, ℕ, suc, min, ◌+◌, ◌-◌, ◌*◌, ◌%◌, ◌^◌, ◌<◌, length, leb, ltb, Option, None, Some}
 use Rattle.agreement.specs.Common.{most_steps, Helper, Helper.for_halfword, Helper.for_access}
 use Rattle.agreement.specs.X86.Memory.{at, read}
 use Rattle.agreement.specs.X86.Form.{RAX, RCX, RDX, RBX, RSP, RBP, RSI, RDI, R8, R12, R13, R14, R15}
@@ -17,14 +16,14 @@ use Rattle.agreement.specs.Statement.Steps.{undivided, StepsOf}
 -- `made`, which the machine translates, is not fed
 
 unfoldable pub left_by : Turn → Option Call → Option Left
-left_by t none = none
-left_by t (some c) = some (record { slots = λ r. read 8 c.back.mem (t.base + 8 * r); rax = c.back.regs RAX })
+left_by t None = None
+left_by t (Some c) = Some (record { slots = λ r. read 8 c.back.mem (t.base + 8 * r); rax = c.back.regs RAX })
 
 unfoldable pub feed_of : Turn → Option Call → Feed
 feed_of t c = record { limit = t.limit; code = t.code; reach = t.reach; room = length t.output; left = left_by t c }
 
 unfoldable pub feed : Turn → Event → Feed
-feed t (rejected pc r) = feed_of t none
+feed t (rejected pc r) = feed_of t None
 feed t (visited pc n v) = feed_of t v.call
 
 unfoldable pub feeds : List Turn → List Event → List Feed
@@ -115,8 +114,8 @@ pub record Helped (t : Turn) (n : ℕ) (v : Visit) (c : Call) (q : Read) : Type 
   pub count : n ≡ suc q.added
 
 unfoldable pub Entered : Turn → ℕ → Visit → Read → Option Call → Type 0
-Entered t n v q none = Plain t n v q
-Entered t n v q (some c) = Helped t n v c q
+Entered t n v q None = Plain t n v q
+Entered t n v q (Some c) = Helped t n v c q
 
 -- a turn that was refused: the manual's run refuses it too, at the same pc, and x0 is zero
 pub record Rejected (t : Turn) (m : GuestState) (pc : ℕ) : Type 0 where
@@ -127,7 +126,7 @@ pub record Rejected (t : Turn) (m : GuestState) (pc : ℕ) : Type 0 where
 -- how a turn is read does not depend on what its helper left: `read_turn` does not look there
 unfoldable pub At : GuestState → Turn → Event → Type 0
 At m t (rejected pc r) = Rejected t m pc
-At m t (visited pc n v) = Returns t m pc v × Entered t n v (read_turn (feed_of t none) m) v.call
+At m t (visited pc n v) = Returns t m pc v × Entered t n v (read_turn (feed_of t None) m) v.call
 
 -- along the list, the manual's run going from turn to turn
 unfoldable pub Along : GuestState → List Turn → List Event → Type 0

@@ -1,8 +1,7 @@
 -- Blocks that are kept while the guest's code changes (document 02, Q-5). Where the code is what it was in the bytes that a block spans,
 -- entering it gives the manual's run of the code as it is now, read for no more instructions than the block counts. What stands behind
 -- its span may have changed, and with it the word at which its translation stopped.
-use Rattle.std.specs.Prelude.{◌≡◌, Bool, List, [], ◌∷◌, ℕ, ◌*◌, ◌^◌, ◌≤◌, ◌<◌, length}
-use Rattle.std.proofs.Math.Option.{none}
+use Rattle.std.specs.Prelude.{◌≡◌, Bool, List, [], ◌∷◌, ℕ, ◌*◌, ◌^◌, ◌≤◌, ◌<◌, length, None}
 use Rattle.agreement.specs.X86.Memory.{read}
 use Rattle.agreement.specs.Riscv.Code.{Code, run_at, SameIn}
 use Rattle.agreement.specs.Riscv.Run.{Feed, GuestState, refused, run_of, read_turn, turn, manual}
@@ -39,7 +38,7 @@ CurrentAlong pc rb (k ∷ ks) =
 
 unfoldable pub feed_now : Kept → Event → Feed
 feed_now k (rejected pc r) =
-    record { limit = k.turn.limit; code = k.now; reach = k.reach; room = length k.turn.output; left = none }
+    record { limit = k.turn.limit; code = k.now; reach = k.reach; room = length k.turn.output; left = None }
 feed_now k (visited pc count v) =
     record { limit = count; code = k.now; reach = k.reach; room = length k.turn.output; left = left_by k.turn v.call }
 

@@ -1,7 +1,6 @@
 -- What the machine does over a list of turns: a translation at the pc, then one entry of its block on the x86 model.
 -- No register number of the guest and no meaning of an instruction stand here. Document 01, demand 3 and "Memory and helpers in demand 3".
-use Rattle.std.specs.Prelude.{◌≡◌, List, [], ◌∷◌, ◌++◌, ℕ, suc, ◌+◌, length}
-use Rattle.std.proofs.Math.Option.{Option, none, some}
+use Rattle.std.specs.Prelude.{◌≡◌, List, [], ◌∷◌, ◌++◌, ℕ, suc, ◌+◌, length, Option, None, Some}
 use Rattle.agreement.specs.Riscv.Code.{Code}
 use Rattle.agreement.specs.X86.Memory.{Memory, overlay, nth}
 use Rattle.agreement.specs.X86.Form.{RAX, RDX, RSP, RDI, Instr, Instr.call_rax, Instr.ret}
@@ -74,19 +73,19 @@ Steps t s n ws u = Goes t.undefined t.ok s n ws u
 -- one step, by the instruction i
 pub record By (t : Turn) (i : Instr) (u v : State) (ws : List ℕ) : Type 0 where
   pub size : ℕ
-  pub fetch : next t.ok u ≡ some (record { instr = i; size = size })
-  pub does : step t.undefined t.ok u ≡ some (v, ws)
+  pub fetch : next t.ok u ≡ Some (record { instr = i; size = size })
+  pub does : step t.undefined t.ok u ≡ Some (v, ws)
 
 -- from entry to the block's RET; or to a CALL, through the helper, and on to the RET
 pub data Went (t : Turn) : State → Visit → Type 0 where
   plainly : {s u v : State} {n : ℕ} {ws xs : List ℕ}
       → Steps t s n ws u → By t ret u v xs
-      → Went t s (record { entry = s; call = none; exit = v; steps = suc n; log = ws ++ xs })
+      → Went t s (record { entry = s; call = None; exit = v; steps = suc n; log = ws ++ xs })
   helped : {s u a w v : State} {n m : ℕ} {ws xs ys zs : List ℕ}
       → Steps t s n ws u → By t call_rax u a xs → Steps t (t.helper a) m ys w → By t ret w v zs
       → Went t s (record {
         entry = s;
-        call = some (record { before = u; inside = a; back = t.helper a });
+        call = Some (record { before = u; inside = a; back = t.helper a });
         exit = v;
         steps = suc n + suc m;
         log = (ws ++ xs) ++ (ys ++ zs);
@@ -120,8 +119,8 @@ pub data History : ℕ → RegisterBytes → List Turn → List Event → ℕ �
 
 -- the sum of RDX at return over the blocks entered since the last helper block
 unfoldable pub plus_rdx : ℕ → ℕ → Option Call → ℕ
-plus_rdx n rdx none = n + rdx
-plus_rdx n rdx (some c) = 0
+plus_rdx n rdx None = n + rdx
+plus_rdx n rdx (Some c) = 0
 
 unfoldable pub since : ℕ → List Event → ℕ
 since n [] = n

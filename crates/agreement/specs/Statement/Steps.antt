@@ -1,7 +1,6 @@
 -- How many steps an entry takes. Jumps stand only in the words that divide, and go forward: each instruction of a block is
 -- executed at most once, and exactly once where the turn meets no such word (document 02, Q-2 and Q-12).
-use Rattle.std.specs.Prelude.{◌≡◌, Bool, true, false, cond, List, [], ◌∷◌, ℕ, zero, suc, ◌≤◌, length, drop}
-use Rattle.std.proofs.Math.Option.{Option, none, some}
+use Rattle.std.specs.Prelude.{◌≡◌, Bool, true, false, cond, List, [], ◌∷◌, ℕ, zero, suc, ◌≤◌, length, drop, Option, None, Some}
 use Rattle.agreement.specs.Riscv.Instruction.{Op, Instruction}
 use Rattle.agreement.specs.Riscv.Instruction.Op.{ADD, SUB, SLT, SLTU, XOR, OR, AND, SLL, SRL, SRA, MUL, ADDW, SUBW, SLLW, SRLW, SRAW}
 use Rattle.agreement.specs.Riscv.Instruction.Op.{MULW, MULH, MULHSU, MULHU, DIV, DIVU, REM, REMU, DIVW, DIVUW, REMW, REMUW}
@@ -60,8 +59,8 @@ undivided_word h [] rest = true
 undivided_word h (u ∷ hs) rest = unless_dividing (taken (word_of h u)) rest
 
 abbrev pub undivided_halfword : Option ℕ → Bool → Bool
-undivided_halfword none rest = true
-undivided_halfword (some w) rest = unless_dividing (taken w) rest
+undivided_halfword None rest = true
+undivided_halfword (Some w) rest = unless_dividing (taken w) rest
 
 -- no word that divides among those that a turn reads, at most n, from a run of halfwords (`reading`)
 unfoldable pub undivided : ℕ → List ℕ → Bool

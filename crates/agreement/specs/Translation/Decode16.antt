@@ -1,7 +1,6 @@
 -- Compressed halfwords as the translator expands them: by shifts and remainders, each field moved to its place in the word at once.
 -- The Rust has no such step. A sign bit is multiplied by the ones that it stands for; 0x8080 puts a register at rd and at rs1.
-use Rattle.std.specs.Prelude.{Bool, cond, List, [], ◌∷◌, ℕ, ◌+◌, ◌*◌, ◌/◌, ◌%◌, ◌^◌, eqb}
-use Rattle.std.proofs.Math.Option.{Option, none, some}
+use Rattle.std.specs.Prelude.{Bool, cond, List, [], ◌∷◌, ℕ, ◌+◌, ◌*◌, ◌/◌, ◌%◌, ◌^◌, eqb, Option, None, Some}
 
 -- (h >> k) % 2^n
 abbrev pub part : ℕ → ℕ → ℕ → ℕ
@@ -9,11 +8,11 @@ part h k n = h / 2 ^ k % 2 ^ n
 
 -- a match on a number, its arms `pattern => value` in order; where none fits there is no word, and the halfword goes to the helper
 unfoldable pub match : ℕ → List (ℕ × Option ℕ) → Option ℕ
-match n [] = none
+match n [] = None
 match n (a ∷ arms) = cond (eqb n a.0) a.1 (match n arms)
 
 abbrev pub unless : Bool → ℕ → Option ℕ
-unless t w = cond t none (some w)
+unless t w = cond t None (Some w)
 
 -- the registers: rd, and rs1 where it is rd; rs2; the same of three bits
 abbrev pub rd : ℕ → ℕ
@@ -64,14 +63,14 @@ pair h base = rs3 h * 2 ^ 20 + rd3 h * 0x8080 + base
 abbrev pub registers : ℕ → Option ℕ
 registers h =
     match (part h 12 1 * 4 + part h 5 2) (
-    (0, some (pair h 0x40000033)) ∷ (1, some (pair h 0x4033)) ∷ (2, some (pair h 0x6033)) ∷ (3, some (pair h 0x7033))
-    ∷ (4, some (pair h 0x4000003B)) ∷ (5, some (pair h 0x3B)) ∷ [])
+    (0, Some (pair h 0x40000033)) ∷ (1, Some (pair h 0x4033)) ∷ (2, Some (pair h 0x6033)) ∷ (3, Some (pair h 0x7033))
+    ∷ (4, Some (pair h 0x4000003B)) ∷ (5, Some (pair h 0x3B)) ∷ [])
 
 abbrev pub arithmetic : ℕ → Option ℕ
 arithmetic h =
     match (part h 10 2) (
-    (0, some (shamt h + rd3 h * 0x8080 + 0x5013)) ∷ (1, some (shamt h + rd3 h * 0x8080 + 0x40005013))
-    ∷ (2, some (imm6 h + rd3 h * 0x8080 + 0x7013)) ∷ (3, registers h) ∷ [])
+    (0, Some (shamt h + rd3 h * 0x8080 + 0x5013)) ∷ (1, Some (shamt h + rd3 h * 0x8080 + 0x40005013))
+    ∷ (2, Some (imm6 h + rd3 h * 0x8080 + 0x7013)) ∷ (3, registers h) ∷ [])
 
 -- C.ADDI16SP where rd is x2, else C.LUI; none with immediate 0
 abbrev pub upper : ℕ → Option ℕ
@@ -81,22 +80,22 @@ upper h = unless (eqb (part h 12 1 * 32 + part h 2 5) 0) (cond (eqb (rd h) 2) (a
 abbrev pub moves : ℕ → Option ℕ
 moves h =
     cond (eqb (rs2 h) 0) (unless (eqb (rd h) 0) (rd h * 2 ^ 15 + part h 12 1 * 2 ^ 7 + 0x67))
-    (some (cond (eqb (part h 12 1) 0) (rs2 h * 2 ^ 20 + rd h * 2 ^ 7 + 0x33) (rs2 h * 2 ^ 20 + rd h * 0x8080 + 0x33)))
+    (Some (cond (eqb (part h 12 1) 0) (rs2 h * 2 ^ 20 + rd h * 2 ^ 7 + 0x33) (rs2 h * 2 ^ 20 + rd h * 0x8080 + 0x33)))
 
 -- by funct3 above the low two bits, which say the quadrant
 unfoldable pub expand_by : ℕ → ℕ → Option ℕ
 expand_by n h = match n (
     (0b000_00, unless (eqb (part h 5 8) 0) (addi4spn h))
-    ∷ (0b000_01, some (imm6 h + rd h * 0x8080 + 0x13))
-    ∷ (0b000_10, some (shamt h + rd h * 0x8080 + 0x1013))
+    ∷ (0b000_01, Some (imm6 h + rd h * 0x8080 + 0x13))
+    ∷ (0b000_10, Some (shamt h + rd h * 0x8080 + 0x1013))
     ∷ (0b001_01, unless (eqb (rd h) 0) (imm6 h + rd h * 0x8080 + 0x1B))
-    ∷ (0b010_01, some (imm6 h + rd h * 2 ^ 7 + 0x13))
+    ∷ (0b010_01, Some (imm6 h + rd h * 2 ^ 7 + 0x13))
     ∷ (0b011_01, upper h)
     ∷ (0b100_01, arithmetic h)
     ∷ (0b100_10, moves h)
-    ∷ (0b101_01, some (jal h))
-    ∷ (0b110_01, some (beq h))
-    ∷ (0b111_01, some (beq h + 0x1000))
+    ∷ (0b101_01, Some (jal h))
+    ∷ (0b110_01, Some (beq h))
+    ∷ (0b111_01, Some (beq h + 0x1000))
     ∷ [])
 
 -- the word that a halfword is translated as; `none`: it goes to the helper

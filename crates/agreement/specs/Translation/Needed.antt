@@ -1,7 +1,6 @@
 -- The halfwords that a translation looks at, for a caller that fetches them one by one: the next one only where the last calls for it.
-use Rattle.std.specs.Prelude.{cond, List, [], ◌∷◌, ℕ, zero, suc, eqb}
+use Rattle.std.specs.Prelude.{cond, List, [], ◌∷◌, ℕ, zero, suc, eqb, Option, None, Some}
 use Rattle.std.specs.Int.Bits.{bit_and}
-use Rattle.std.proofs.Math.Option.{Option, none, some}
 use Rattle.agreement.specs.Riscv.Instruction.{Instruction}
 use Rattle.agreement.specs.Riscv.Instruction.Instruction.{other}
 use Rattle.agreement.specs.Translation.Decode16.{expand}
@@ -10,8 +9,8 @@ use Rattle.agreement.specs.Translation.Kind.{kind, kind_number}
 
 -- what a halfword is translated as; `other`: a helper executes it
 abbrev pub halfword_kind : Option ℕ → Instruction
-halfword_kind none = other
-halfword_kind (some w) = kind w
+halfword_kind None = other
+halfword_kind (Some w) = kind w
 
 -- behind an instruction that is not straight none is needed
 abbrev pub behind : Instruction → List ℕ → List ℕ

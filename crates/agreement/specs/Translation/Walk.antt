@@ -1,7 +1,6 @@
 -- The walk over a run of halfwords, and the block: the Rust's `compile_native_block`.
-use Rattle.std.specs.Prelude.{true, false, List, [], ◌∷◌, ◌++◌, ℕ, zero, suc, ◌+◌, drop, eqb}
+use Rattle.std.specs.Prelude.{true, false, List, [], ◌∷◌, ◌++◌, ℕ, zero, suc, ◌+◌, drop, eqb, Option, None, Some}
 use Rattle.std.specs.Int.Bits.{bit_and}
-use Rattle.std.proofs.Math.Option.{Option, none, some}
 use Rattle.agreement.specs.Common.{Length.long, Length.short, size, Helper, Helper.for_halfword, Helper.for_access}
 use Rattle.agreement.specs.Riscv.Instruction.{Instruction}
 use Rattle.agreement.specs.Riscv.Instruction.Instruction.{op, op_imm, branch, access, unmodelled, LUI, AUIPC, JAL, JALR, FENCE, FENCE_I, other}
@@ -77,8 +76,8 @@ emit_word pc h (u ∷ hs) p = emit (kind (word_of h u)) (size long) pc (word_of 
 
 -- the halfword h at pc: the word that it is translated as, or a helper end
 abbrev pub emit_halfword : Option ℕ → ℕ → ℕ → Walked → Walked
-emit_halfword none pc h p = helps for_halfword h pc
-emit_halfword (some w) pc h p = emit (kind w) (size short) pc w p
+emit_halfword None pc h p = helps for_halfword h pc
+emit_halfword (Some w) pc h p = emit (kind w) (size short) pc w p
 
 -- at most n instructions of the halfwords that stand at pc; a compressed one needs no second halfword
 unfoldable pub walk : ℕ → ℕ → List ℕ → Walked
