@@ -1,14 +1,13 @@
 -- What the exported functions reply: document 01's number and values as a record of four numbers.
-use Rattle.std.specs.Prelude.{◌≡◌, List, [], ◌∷◌, ℕ, zero, suc, length}
-use Rattle.std.proofs.Math.Option.{Option, none, some}
+use Rattle.std.specs.Prelude.{◌≡◌, List, [], ◌∷◌, ℕ, zero, suc, length, Option, None, Some}
 use Rattle.agreement.specs.Translation.Replies.{translate, numbered, output_after}
 use Rattle.agreement.specs.Translation.Place.{place, placing_numbered, store_after}
 use Rattle.capi.specs.declared.Reply.{Reply}
 
 -- the word, 0 where there is none
 abbrev pub or_0 : Option ℕ → ℕ
-or_0 none = 0
-or_0 (some w) = w
+or_0 None = 0
+or_0 (Some w) = w
 
 -- the value of that index, 0 where there are fewer
 abbrev pub value : ℕ → List ℕ → ℕ

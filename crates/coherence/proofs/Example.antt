@@ -1,6 +1,6 @@
 -- Two blocks are inserted, under two satps, and a write touches the second: what is left, computed, and the theorems applied to it.
 use Rattle.std.proofs.Common.{◌≡◌, refl, sym, ap, ◌∙◌, Bool, true, false, cond, List, [], ◌∷◌, ◌++◌, ℕ, arith, eqb, eqb-true, length}
-use Rattle.std.proofs.Math.Option.{some}
+use Rattle.std.specs.Prelude.{Some}
 use Rattle.agreement.specs.Riscv.Code.{run_at}
 use Rattle.agreement.proofs.Checks.Cases.{words}
 use Rattle.agreement.proofs.Checks.CasesHold.{translations}
@@ -23,7 +23,7 @@ before satp = held 0x80000000 (words (0x00500093 ∷ 0x0000006F ∷ []))
 
 -- the guest has written one byte, the last of JAL, which is now JAL x0, -1048576
 abbrev behind : Codes
-behind satp x = cond (eqb x 0x80000006) (some 0x8000) (before satp x)
+behind satp x = cond (eqb x 0x80000006) (Some 0x8000) (before satp x)
 
 abbrev request : ℕ → ℕ → ℕ → Request
 request satp pc offset = record {
@@ -52,7 +52,7 @@ left = refl
 one_byte : Writes 0x80000007 1 before behind
 one_byte satp x low first second = at (eqb x 0x80000006) refl
   where
-    at : (b : Bool) → eqb x 0x80000006 ≡ b → cond b (some 0x8000) (before satp x) ≡ before satp x
+    at : (b : Bool) → eqb x 0x80000006 ≡ b → cond b (Some 0x8000) (before satp x) ≡ before satp x
     at true e = let is : x ≡ 0x80000006 = eqb-true x 0x80000006 e in absurd (second 0 (omega arith) (omega (arith, is)))
     at false e = refl
 

@@ -5,7 +5,6 @@
 ghost use Rattle.std.specs.Prelude.{◌≡◌, ◌<◌};
 ghost use Rattle.agreement.specs.Riscv.Run.{in_line};
 ghost use Rattle.agreement.specs.Translation.Decode16 as Decode16;
-ghost use Rattle.decode.specs.Expanded.{word_or};
 
 // rd, which is rs1 too.
 #[inline(always)]
@@ -95,7 +94,7 @@ fn beq(h: u32) -> u32
 // None where a halfword of these fields is another, which is not in line.
 #[inline(always)]
 fn unless(other: bool, word: u32) -> Option<u32>
-    ensures { word_or result ≡ Decode16.unless other word }
+    ensures { result ≡ Decode16.unless other word }
 {
     if other { None } else { Some(word) }
 }
@@ -112,7 +111,7 @@ fn pair(h: u32, base: u32) -> u32
 // C.SUB, C.XOR, C.OR, C.AND, C.SUBW and C.ADDW, by bit 12 above bits 6 and 5: a match of constants, which the compiler makes a table of.
 #[inline(always)]
 fn registers(h: u32) -> Option<u32>
-    ensures { word_or result ≡ Decode16.registers h }
+    ensures { result ≡ Decode16.registers h }
 {
     let base = match (h >> 12) % 2 * 4 + (h >> 5) % 4 {
         0 => 0x4000_0033,
@@ -129,7 +128,7 @@ fn registers(h: u32) -> Option<u32>
 // C.SRLI, C.SRAI, C.ANDI, and two registers.
 #[inline(always)]
 fn arithmetic(h: u32) -> Option<u32>
-    ensures { word_or result ≡ Decode16.arithmetic h }
+    ensures { result ≡ Decode16.arithmetic h }
 {
     let row = (h >> 10) % 4;
     if row == 3 {
@@ -144,7 +143,7 @@ fn arithmetic(h: u32) -> Option<u32>
 // C.ADDI16SP where rd is x2, else C.LUI; none with immediate 0, which is tested as C.LUI has it.
 #[inline(always)]
 fn upper(h: u32) -> Option<u32>
-    ensures { word_or result ≡ Decode16.upper h }
+    ensures { result ≡ Decode16.upper h }
 {
     let imm = (h >> 12) % 2 * 0xFFFE_0000 + (h >> 2) % 32 * 0x1000;
     if imm == 0 {
@@ -160,7 +159,7 @@ fn upper(h: u32) -> Option<u32>
 // C.JR and C.JALR, none of x0 (C.EBREAK and a reserved one); C.MV and C.ADD.
 #[inline(always)]
 fn moves(h: u32) -> Option<u32>
-    ensures { word_or result ≡ Decode16.moves h }
+    ensures { result ≡ Decode16.moves h }
 {
     let bit12 = (h >> 12) % 2;
     if rs2(h) == 0 {
@@ -177,7 +176,7 @@ fn moves(h: u32) -> Option<u32>
 // is a load, a store or reserved, or its low bits are those of a longer instruction.
 #[inline(always)]
 pub fn expand(halfword: u16) -> Option<u32>
-    ensures { word_or result ≡ in_line halfword }
+    ensures { result ≡ in_line halfword }
 {
     let h = halfword as u32;
     match (h >> 13) * 4 + h % 4 {

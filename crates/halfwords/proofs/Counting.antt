@@ -1,6 +1,6 @@
 -- The counts, computed over all halfwords as one number, five digits for each: a record would be computed once for each of its fields.
 use Rattle.std.proofs.Common.{Bool, cond, false, true, ◌∙◌, ◌≡◌, ap, refl, sym, ◌*◌, ◌+◌, ◌^◌, ◌≤◌, suc, zero, ℕ, arith, eqb}
-use Rattle.std.proofs.Math.Option.{Option, none, some}
+use Rattle.std.specs.Prelude.{Option, None, Some}
 use Rattle.agreement.specs.Riscv.Immediates.{sign_extend}
 use Rattle.agreement.specs.Riscv.Fields.{funct3, funct6, funct7, opcode}
 use Rattle.agreement.specs.Riscv.Compressed as C
@@ -21,8 +21,8 @@ digit i w =
 
 -- the translator's tests name a word in fewer steps than the manual's listing does
 unfoldable sorted : Option ℕ → ℕ
-sorted none = 10 ^ 20
-sorted (some w) = digit (kind_of (opcode w) (funct3 w) (funct7 w) (funct6 w)) w
+sorted None = 10 ^ 20
+sorted (Some w) = digit (kind_of (opcode w) (funct3 w) (funct7 w) (funct6 w)) w
 
 taken_is : (w : ℕ) → taken w ≡ kind_of (opcode w) (funct3 w) (funct7 w) (funct6 w)
 unfolding kind
@@ -32,7 +32,7 @@ packed_cond : (t : Bool) (c d : Counts) → packed (cond t c d) ≡ cond t (pack
 packed_cond true c d = refl
 packed_cond false c d = refl
 
-digit_is : (t : Bool) (w : ℕ) → packed (counted (cond t (some w) none) (some w))
+digit_is : (t : Bool) (w : ℕ) → packed (counted (cond t (Some w) None) (Some w))
     ≡ cond t (cond (ends (taken w)) (10 ^ 5) 1) (cond (eqb w ebreak) (10 ^ 15) (cond (is_access w) (10 ^ 10) 0))
 unfolding counted
 digit_is true w = packed_cond (ends (taken w)) _ _
@@ -40,8 +40,8 @@ digit_is false w = packed_cond (eqb w ebreak) _ _ ∙ ap (cond (eqb w ebreak) (1
 
 sorted_is : (e : Option ℕ) → packed (counted (if_in_line e) e) ≡ sorted e
 unfolding if_in_line sorted digit counted
-sorted_is none = refl
-sorted_is (some w) = digit_is (is_in_line (taken w)) w ∙ ap (λ (i : Instruction). digit i w) (taken_is w)
+sorted_is None = refl
+sorted_is (Some w) = digit_is (is_in_line (taken w)) w ∙ ap (λ (i : Instruction). digit i w) (taken_is w)
 
 unfoldable sum : ℕ → ℕ → ℕ
 sum zero a = elim (is_long a) [ true ↦ 0 | false ↦ sorted (C.expansion a) ]
@@ -123,9 +123,9 @@ size_cond false c d l k = k
 
 size_counted : (i e : Option ℕ) → size (counted i e) ≤ 1
 unfolding counted
-size_counted none none = omega arith
-size_counted none (some w) = size_cond (eqb w ebreak) _ _ (omega arith) (size_cond (is_access w) _ _ (omega arith) (omega arith))
-size_counted (some w) e = size_cond (ends (taken w)) _ _ (omega arith) (omega arith)
+size_counted None None = omega arith
+size_counted None (Some w) = size_cond (eqb w ebreak) _ _ (omega arith) (size_cond (is_access w) _ _ (omega arith) (omega arith))
+size_counted (Some w) e = size_cond (ends (taken w)) _ _ (omega arith) (omega arith)
 
 size_le : (k a : ℕ) → size (count k a) ≤ 2 ^ k
 unfolding count

@@ -1,6 +1,5 @@
 -- How many of all halfwords are reserved, C.EBREAK, loads and stores, and read in line, ending the turn or going straight on.
-use Rattle.std.specs.Prelude.{Bool, true, false, cond, ◌||◌, ◌≡◌, ℕ, zero, suc, ◌+◌, ◌^◌, eqb}
-use Rattle.std.proofs.Math.Option.{Option, none, some}
+use Rattle.std.specs.Prelude.{Bool, true, false, cond, ◌||◌, ◌≡◌, ℕ, zero, suc, ◌+◌, ◌^◌, eqb, Option, None, Some}
 use Rattle.agreement.specs.Riscv.Fields.{opcode}
 use Rattle.agreement.specs.Riscv.Compressed.{expansion}
 use Rattle.agreement.specs.Riscv.Instruction.{Instruction}
@@ -47,9 +46,9 @@ is_access w = eqb (opcode w) 0x03 || (eqb (opcode w) 0x23 || (eqb (opcode w) 0x0
 
 -- a halfword by the word that it is read as, and by the word that it expands to
 unfoldable pub counted : Option ℕ → Option ℕ → Counts
-counted (some w) e = cond (ends (taken w)) (counts 0 0 0 1 0) (counts 0 0 0 0 1)
-counted none (some w) = cond (eqb w ebreak) (counts 0 1 0 0 0) (cond (is_access w) (counts 0 0 1 0 0) (counts 0 0 0 0 0))
-counted none none = counts 1 0 0 0 0
+counted (Some w) e = cond (ends (taken w)) (counts 0 0 0 1 0) (counts 0 0 0 0 1)
+counted None (Some w) = cond (eqb w ebreak) (counts 0 1 0 0 0) (cond (is_access w) (counts 0 0 1 0 0) (counts 0 0 0 0 0))
+counted None None = counts 1 0 0 0 0
 
 -- of the 2^k halfwords from a on those whose low two bits are not 3
 unfoldable pub count : ℕ → ℕ → Counts

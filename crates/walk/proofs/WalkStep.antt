@@ -1,8 +1,7 @@
 -- A step of the walk (crate agreement, Translation/Walk) by what stands at the front of the run.
 use Rattle.std.proofs.Common.{bit_and, Bool, List, [], ap, cond, drop, drop-drop, eqb, false, refl, sub-one, subst, suc, sym, true, zero, ℕ, ◌+◌, ◌*◌, ◌≤◌, arith}
-use Rattle.std.proofs.Common.{◌-◌, ◌∙◌, ◌∷◌, ◌≡◌, ◌≢◌, Option, Result, Ok, Err}
-use Rattle.std.proofs.Math.Option.{none, some}
-use Rattle.std.proofs.Math.Option as Definitions
+use Rattle.std.specs.Prelude.{Option, None, Some}
+use Rattle.std.proofs.Common.{◌-◌, ◌∙◌, ◌∷◌, ◌≡◌, ◌≢◌, Result, Ok, Err}
 use Rattle.agreement.specs.Common.{Helper.for_halfword}
 use Rattle.agreement.specs.Translation.Decode32.{word_of, wrapping_add}
 use Rattle.agreement.specs.Translation.Kind.{kind}
@@ -69,11 +68,11 @@ by_instr (Ok i) pc rest = emit (kind i.word) (2 * i.halfwords) pc i.word (rest i
 
 translated : (f : Fetched) (pc : ℕ) (rest : ℕ → Walked) → by_fetched (Ok f) pc rest ≡ by_instr (to_translate f) pc rest
 translated (Word w) pc rest = refl
-translated (Half h) pc rest = ap (λ (o : Definitions.Option ℕ). emit_halfword o pc h (rest 1)) (expand_is h) ∙ go (in_line h)
+translated (Half h) pc rest = ap (λ (o : Option ℕ). emit_halfword o pc h (rest 1)) (expand_is h) ∙ go (in_line h)
   where
-    go : (o : Definitions.Option ℕ) → emit_halfword o pc h (rest 1) ≡ by_instr (by_expansion o h) pc rest
-    go none = refl
-    go (some w) = refl
+    go : (o : Option ℕ) → emit_halfword o pc h (rest 1) ≡ by_instr (by_expansion o h) pc rest
+    go None = refl
+    go (Some w) = refl
 
 some_translated : (n pc : ℕ) (hs : List ℕ) {f : Fetched} {i : Result Instr ℕ} → n ≢ 0 → Ok f ≡ fetched hs → i ≡ to_translate f
     → walk n pc hs ≡ by_instr i pc (follows (n - 1) pc hs)
@@ -114,9 +113,9 @@ at_most : (f : Fetched) → halfwords_of (to_translate f) ≤ 2
 at_most (Word w) = omega arith
 at_most (Half h) = go (in_line h)
   where
-    go : (o : Definitions.Option ℕ) → halfwords_of (by_expansion o h) ≤ 2
-    go none = omega arith
-    go (some w) = omega arith
+    go : (o : Option ℕ) → halfwords_of (by_expansion o h) ≤ 2
+    go None = omega arith
+    go (Some w) = omega arith
 
 pub at_most_two : {w m : ℕ} (f : Fetched) → Ok (instr_of w m) ≡ to_translate f → m ≤ 2
 at_most_two f e = subst (λ (n : ℕ). n ≤ 2) (sym (ap halfwords_of e)) (at_most f)

@@ -1,7 +1,6 @@
 -- What stands at the front of a run of halfwords, as the walk of crate agreement (Translation/Walk) takes it apart, and what it is translated
 -- as.
-use Rattle.std.specs.Prelude.{ℕ, cond, List, [], ◌∷◌, ◌==◌, bit_and, Result, Ok, Err}
-use Rattle.std.proofs.Math.Option.{Option, none, some}
+use Rattle.std.specs.Prelude.{ℕ, cond, List, [], ◌∷◌, ◌==◌, bit_and, Result, Ok, Err, Option, None, Some}
 use Rattle.agreement.specs.Riscv.Run.{in_line}
 use Rattle.agreement.specs.Translation.Decode32.{word_of}
 use Rattle.walk.specs.declared.fetch.Fetched.{Fetched}
@@ -22,8 +21,8 @@ instr_of w m = record { word = w; halfwords = m }
 
 -- a halfword by the word that it is read as
 abbrev pub by_expansion : Option ℕ → ℕ → Result Instr ℕ
-by_expansion none h = Err h
-by_expansion (some w) h = Ok (instr_of w 1)
+by_expansion None h = Err h
+by_expansion (Some w) h = Ok (instr_of w 1)
 
 abbrev pub to_translate : Fetched → Result Instr ℕ
 to_translate (Half h) = by_expansion (in_line h) h

@@ -1,13 +1,13 @@
 use Rattle.std.proofs.Common.{◌≡◌, ℕ, ◌+◌, ◌*◌, ◌<◌, zero, suc, ap, refl, arith, rules}
-use Rattle.std.proofs.Math.Option.{some}
+use Rattle.std.specs.Prelude.{Some}
 use Rattle.agreement.specs.Translation.Decode16.{part, match, shamt, rd3, arithmetic}
 use Rattle.decode.proofs.compressed.arithmetic.Goals as goal
 
 -- rows 0 and 1 are one sum
-shifts : (h n : ℕ) → part h 10 2 ≡ n → n < 2 → some (shamt h + rd3 h * 0x8080 + 0x5013 + n * 0x40000000) ≡ arithmetic h
+shifts : (h n : ℕ) → part h 10 2 ≡ n → n < 2 → Some (shamt h + rd3 h * 0x8080 + 0x5013 + n * 0x40000000) ≡ arithmetic h
 unfolding match
-shifts h zero e l = rw e (ap (λ (w : ℕ). some w) (omega arith))
-shifts h (suc zero) e l = rw e (ap (λ (w : ℕ). some w) (omega arith))
+shifts h zero e l = rw e (ap (λ (w : ℕ). Some w) (omega arith))
+shifts h (suc zero) e l = rw e (ap (λ (w : ℕ). Some w) (omega arith))
 shifts h (suc (suc n)) e l = absurd (omega (arith, l))
 
 pub returns-then-row-eq3 : goal.returns-then-row-eq3
