@@ -1,10 +1,10 @@
 //! Runs of compressed instructions beside the same words uncompressed, both by this crate: request Q-7 wants a word in at most 1.2 times the
 //! time.
 
-use crate::random::Random;
 use crate::runs::{halves, START};
+use crate::support::random::Random;
+use crate::support::words;
 use crate::time::{heading_beside, row};
-use crate::words;
 use emuko_x64_blocks::{expansion, translate, word_kind, Request, Run, WordKind, GREATEST_BLOCK};
 use std::convert::Infallible;
 use std::hint::black_box;

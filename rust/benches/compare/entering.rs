@@ -1,11 +1,11 @@
 //! Blocks entered: sixty-four times a word of M, beside the same sixty-four operations compiled by rustc, zero divisors and overflow seen
 //! to there too. Both load two slots and store one for each, the same slots with the same numbers in the same order.
 
-use crate::random::Random;
 use crate::runs::{halves, START};
+use crate::support::mapped::executable;
+use crate::support::random::Random;
 use crate::time::{heading_beside, row};
 use emuko_x64_blocks::{block_fn, translate, BlockResult, CodeStore, Request, GREATEST_BLOCK};
-use std::ffi::c_void;
 use std::hint::black_box;
 use std::ptr::null_mut;
 
@@ -130,26 +130,6 @@ mod operations {
 
     pub fn remuw(a: u64, b: u64) -> u64 {
         (a as u32).checked_rem(b as u32).unwrap_or(a as u32) as i32 as u64
-    }
-}
-
-/// Memory that may be written and executed.
-fn executable(length: usize) -> &'static mut [u8] {
-    extern "C" {
-        fn mmap(
-            addr: *mut c_void,
-            length: usize,
-            protection: i32,
-            flags: i32,
-            file: i32,
-            offset: i64,
-        ) -> *mut c_void;
-    }
-    // SAFETY: A new mapping that nothing else knows of: readable, writable, executable; private and anonymous.
-    unsafe {
-        let memory = mmap(null_mut(), length, 7, 0x22, -1, 0);
-        assert_ne!(memory as isize, -1, "no executable memory");
-        std::slice::from_raw_parts_mut(memory.cast(), length)
     }
 }
 

@@ -2,8 +2,8 @@
 //! translating 16 words anew; and the drop of what a write touches, beside translating 16 words, too. docs/PERFORMANCE.md says up to which
 //! number of entries a scan takes less time than that.
 
-use crate::random::Random;
 use crate::runs::{cases, Case, START};
+use crate::support::random::Random;
 use crate::time::{heading_beside, row};
 use emuko_x64_blocks::{
     translate, BlockIndex, BucketIndex, Entry, NativeBlock, Request, GREATEST_BLOCK,

@@ -6,17 +6,13 @@ mod compressed;
 mod entering;
 mod index;
 mod linked;
-#[allow(dead_code)]
-#[path = "../../tests/suite/random.rs"]
-mod random;
 mod runs;
 mod size;
 mod stack;
+#[allow(dead_code)]
+mod support;
 mod time;
 mod translating;
-#[allow(dead_code)]
-#[path = "../../tests/suite/words.rs"]
-mod words;
 
 fn main() {
     translating::rows();

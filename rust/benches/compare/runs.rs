@@ -1,7 +1,7 @@
 //! The runs of words that are translated.
 
-use crate::random::Random;
-use crate::words;
+use crate::support::random::Random;
+use crate::support::words;
 
 pub const START: u64 = 0x8000_0000;
 

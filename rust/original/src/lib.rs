@@ -8,6 +8,17 @@ mod memory;
 use memory::Run;
 pub use memory::{Access, Memory};
 
+/// What a translation is asked for.
+#[derive(Clone, Copy, Debug)]
+pub struct Asked<'a> {
+    pub start: u64,
+    pub limit: u32,
+    /// The guest's code from `start` on.
+    pub halfwords: &'a [u16],
+    /// The helpers' addresses: the one for compressed halfwords, the one for loads and stores.
+    pub helpers: [u64; 2],
+}
+
 /// What a translation does with a request. emuko has no lent output, hence no number 5.
 #[derive(Clone, Copy, Debug, PartialEq, Eq)]
 pub enum Answer {
@@ -49,14 +60,7 @@ pub trait Emuko {
     fn new(code_size: usize) -> Self;
 
     /// `Hart::compile_native_block`. The block's bytes are left in `bytes`.
-    fn translate(
-        &mut self,
-        start: u64,
-        limit: u32,
-        halfwords: &[u16],
-        helpers: [u64; 2],
-        bytes: &mut Vec<u8>,
-    ) -> Answer;
+    fn translate(&mut self, asked: Asked, bytes: &mut Vec<u8>) -> Answer;
 
     /// The same from memory, and all that can be seen behind it.
     fn compile(&mut self, memory: &mut Memory, pc: u64, limit: u32) -> Compiled;
@@ -95,16 +99,13 @@ macro_rules! emuko {
                 }
             }
 
-            fn translate(
-                &mut self,
-                start: u64,
-                limit: u32,
-                halfwords: &[u16],
-                helpers: [u64; 2],
-                bytes: &mut Vec<u8>,
-            ) -> Answer {
-                let mut run = Run { start, halfwords };
-                self.hart.compare_translate(&mut run, limit, helpers, bytes)
+            fn translate(&mut self, asked: Asked, bytes: &mut Vec<u8>) -> Answer {
+                let mut run = Run {
+                    start: asked.start,
+                    halfwords: asked.halfwords,
+                };
+                self.hart
+                    .compare_translate(&mut run, asked.limit, asked.helpers, bytes)
             }
 
             fn compile(&mut self, memory: &mut Memory, pc: u64, limit: u32) -> Compiled {

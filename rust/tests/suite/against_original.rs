@@ -3,14 +3,14 @@
 
 use crate::compressed;
 use crate::fence_i::instructions_to_fence_i;
-use crate::judged::judged;
-use crate::random::Random;
-use crate::requests::{self, Lent, Wanted};
 use crate::reserved_jalr::{ends_block, first_reserved};
 use crate::rest_of_m::first_of_the_rest;
-use crate::runs::instructions;
 use crate::spans;
-use crate::words::{self, halves};
+use crate::support::judged::judged;
+use crate::support::random::Random;
+use crate::support::requests::{self, Lent, Wanted};
+use crate::support::runs::instructions;
+use crate::support::words::{self, halves};
 use emuko_original::{Answer, Emuko, Original, CODE_SIZE};
 use emuko_x64_blocks::{translate, Refusal, Request, GREATEST_BLOCK};
 
@@ -41,14 +41,8 @@ impl Comparison {
     /// What the original says to a request, asked as above, and the span of as many instructions as it counts; its block's bytes are then
     /// in `self.bytes`.
     fn expected(&mut self, request: &Request, output: usize) -> Result<Size, Refusal> {
-        let answer = judged(
-            &mut self.original,
-            request.start,
-            request.limit,
-            request.halfwords,
-            [request.helpers.halfword, request.helpers.memory],
-            &mut self.bytes,
-        );
+        let asked = requests::of_the_original(request);
+        let answer = judged(&mut self.original, asked, &mut self.bytes);
         match answer {
             // Document 01 adds number 5 and tests it last. It goes by the greatest block of all, not by this one.
             Answer::Block(_) if output < GREATEST_BLOCK => Err(Refusal::OutputTooShort),

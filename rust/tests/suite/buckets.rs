@@ -1,7 +1,7 @@
 //! The index in buckets: which entries a key can stand in, how evenly keys are spread, and how many are refused at which load.
 
 use crate::index::{block, Key, FREE, SATP, START};
-use crate::random::Random;
+use crate::support::random::Random;
 use emuko_x64_blocks::{BucketIndex, CodeStore, Entry, InsertRefusal};
 use std::collections::HashSet;
 

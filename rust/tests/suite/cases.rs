@@ -3,7 +3,7 @@
 use crate::archive::{
     emuko_expand, emuko_place, emuko_rules, emuko_translate, emuko_word_kind, Reply,
 };
-use crate::words::halves;
+use crate::support::words::halves;
 use emuko_x64_blocks::{
     expansion, place, translate, word_kind, Helpers, PlaceRefusal, Refusal, Request, WordKind,
     GREATEST_BLOCK, LEAST_BLOCK, MOST_STEPS,

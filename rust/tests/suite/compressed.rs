@@ -3,12 +3,12 @@
 //! these, begun so that the address behind the block's last instruction is the right one: so it says everything of a reply but the span.
 
 use crate::against_original::{Comparison, Size};
-use crate::judged::judged;
-use crate::random::Random;
 use crate::reserved_jalr::emptied_once;
-use crate::runs::{instructions, rewritten, words, END};
 use crate::spans;
-use emuko_original::{Answer, Emuko, Original, CODE_SIZE};
+use crate::support::judged::judged;
+use crate::support::random::Random;
+use crate::support::runs::{instructions, rewritten, words, END};
+use emuko_original::{Answer, Asked, Emuko, Original, CODE_SIZE};
 use emuko_x64_blocks::{expansion, rules, translate, Request, GREATEST_BLOCK};
 use std::borrow::Cow;
 use std::sync::OnceLock;
@@ -123,38 +123,49 @@ pub fn expanded(halfwords: &[u16]) -> Cow<'_, [u16]> {
 
 /// Code, and the run with words in the place of its compressed instructions, for which the original is asked.
 pub struct InPlace<'a> {
-    pub start: u64,
-    pub halfwords: &'a [u16],
+    pub asked: Asked<'a>,
     pub run: &'a [u16],
-    pub helpers: [u64; 2],
 }
 
 impl InPlace<'_> {
     /// Where the run begins so that the address behind so many instructions of it is the one behind as many of the code.
     fn begun(&self, count: u32) -> u64 {
-        let longer = spans::of(self.run, count) - spans::of(self.halfwords, count);
-        self.start.wrapping_sub(longer)
+        let longer = spans::of(self.run, count) - spans::of(self.asked.halfwords, count);
+        self.asked.start.wrapping_sub(longer)
     }
 
     /// The block of so many instructions at the most, the run beginning there.
-    fn asked(
+    fn block(
         &self,
         original: &mut Original,
         start: u64,
         limit: u32,
         bytes: &mut Vec<u8>,
     ) -> Answer {
-        original.translate(start, limit, self.run, self.helpers, bytes)
+        let halfwords = self.run;
+        let asked = Asked {
+            start,
+            limit,
+            halfwords,
+            ..self.asked
+        };
+        original.translate(asked, bytes)
     }
 
     /// The original's answer. What follows its block's last instruction is to stand where it does in the code: the next pc, what a jump links
     /// to, a load's own pc before it. How many instructions there are is no matter of where the run begins, so that is asked first.
-    pub fn translated(&self, original: &mut Original, limit: u32, bytes: &mut Vec<u8>) -> Answer {
-        let answer = self.asked(original, self.start, limit, bytes);
+    pub fn translated(&self, original: &mut Original, bytes: &mut Vec<u8>) -> Answer {
+        let Asked {
+            start,
+            limit,
+            halfwords,
+            ..
+        } = self.asked;
+        let answer = self.block(original, start, limit, bytes);
         match answer {
-            Answer::Block(count) if self.run.len() > self.halfwords.len() => {
-                let again = self.asked(original, self.begun(count), limit, bytes);
-                assert_eq!(again, answer, "{:x?}", self.halfwords);
+            Answer::Block(count) if self.run.len() > halfwords.len() => {
+                let again = self.block(original, self.begun(count), limit, bytes);
+                assert_eq!(again, answer, "{halfwords:x?}");
                 self.put_auipc(original, count, bytes);
             }
             _ => {}
@@ -170,7 +181,7 @@ impl InPlace<'_> {
         for count in (1..=count).rev() {
             let last = words.get(count as usize - 1);
             if last.is_some_and(|word| word & 0x7F == AUIPC) {
-                self.asked(original, self.begun(count), count, &mut block);
+                self.block(original, self.begun(count), count, &mut block);
                 let front = &block[..block.len() - END];
                 bytes[..front.len()].copy_from_slice(front);
             }
@@ -271,15 +282,13 @@ fn stand_ins_by_hand() {
 /// What the judge says of a run at 0x80000000: the block's length and count, and whether these numbers stand in it in this order.
 fn judge(halfwords: &[u16], numbers: &[u64]) -> (usize, Answer) {
     let (mut original, mut bytes) = (Original::new(CODE_SIZE), Vec::new());
-    let helpers = [0xAAAA, 0xBBBB];
-    let answer = judged(
-        &mut original,
-        0x8000_0000,
-        64,
+    let asked = Asked {
+        start: 0x8000_0000,
+        limit: 64,
         halfwords,
-        helpers,
-        &mut bytes,
-    );
+        helpers: [0xAAAA, 0xBBBB],
+    };
+    let answer = judged(&mut original, asked, &mut bytes);
     let mut rest = &bytes[..];
     for number in numbers {
         let at = rest

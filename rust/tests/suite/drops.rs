@@ -4,7 +4,7 @@
 
 use crate::archive::emuko_index_drop;
 use crate::index::{block, freed, used, Key, FREE, MARKS, SATP, START};
-use crate::random::Random;
+use crate::support::random::Random;
 use emuko_x64_blocks::{BlockIndex, BucketIndex, CodeStore, Entry, InsertRefusal, NativeBlock};
 use std::collections::HashSet;
 

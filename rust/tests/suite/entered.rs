@@ -2,14 +2,15 @@
 //! that it left, and the run of the manual (module `manual`) says what has to come out.
 
 use crate::fence_i::is_fence_i;
-use crate::machine::{executable, helpers, value, After, Called, Entered, Machine};
 use crate::manual::{Run, Turn};
-use crate::random::Random;
-use crate::requests;
 use crate::rest_of_m::{of_m, M};
-use crate::runs::{self, instructions};
-use crate::words;
-use emuko_original::{Answer, Emuko, Original};
+use crate::support::machine::{helpers, value, After, Called, Entered, Machine};
+use crate::support::mapped::executable;
+use crate::support::random::Random;
+use crate::support::requests;
+use crate::support::runs::{self, instructions};
+use crate::support::words;
+use emuko_original::{Answer, Asked, Emuko, Original};
 use emuko_x64_blocks::{
     block_fn, translate, BlockIndex, BlockResult, CodeStore, Entry, HelperFn, Helpers, NativeBlock,
     Refusal, Request, GREATEST_BLOCK,
@@ -327,7 +328,13 @@ fn where_the_original_ends() {
             *register = value(&mut r);
         }
         let start = requests::start(&mut r) & !1;
-        let answer = original.translate(start, 64, &run, [0, 0], &mut bytes);
+        let asked = Asked {
+            start,
+            limit: 64,
+            halfwords: &run,
+            helpers: [0, 0],
+        };
+        let answer = original.translate(asked, &mut bytes);
         assert_eq!(answer, Answer::Block(run.len() as u32 / 2));
         machine.slots().copy_from_slice(&x);
         machine.out[..bytes.len()].copy_from_slice(&bytes);

@@ -1,11 +1,11 @@
 //! The words of M entered on this processor: request Q-2's table of values, and operands at the corners, with the manual's values
 //! (module `manual`).
 
-use crate::machine::{helpers, value, Machine, CORNERS};
 use crate::manual::{behind, Run};
-use crate::random::Random;
 use crate::rest_of_m::M;
-use crate::words::halves;
+use crate::support::machine::{helpers, value, Machine, CORNERS};
+use crate::support::random::Random;
+use crate::support::words::halves;
 use emuko_x64_blocks::{translate, Request, GREATEST_BLOCK, MOST_STEPS};
 
 const START: u64 = 0x8000_0000;

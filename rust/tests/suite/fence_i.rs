@@ -1,9 +1,9 @@
 //! FENCE.I ends its block here, and in the original Rust the block goes on behind it. The original is therefore asked for the run cut
 //! behind its first FENCE.I, where it finds no further halfword, or for no more words than lead there.
 
-use crate::random::Random;
-use crate::requests;
-use crate::runs::{asked, instructions, words, END};
+use crate::support::random::Random;
+use crate::support::requests;
+use crate::support::runs::{asked, instructions, words, END};
 use emuko_original::{Answer, Emuko, Original, CODE_SIZE};
 
 /// By opcode and funct3, whatever the other fields.

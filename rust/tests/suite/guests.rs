@@ -4,11 +4,11 @@
 
 use crate::compressed::{self, in_line};
 use crate::entered::{List, Seen as Entered};
-use crate::machine::Machine;
 use crate::manual;
-use crate::random::Random;
-use crate::runs::instructions;
-use crate::words;
+use crate::support::machine::Machine;
+use crate::support::random::Random;
+use crate::support::runs::instructions;
+use crate::support::words;
 use emuko_x64_blocks::GREATEST_BLOCK;
 
 /// Halfwords of code that a guest has; what stands around them cannot be fetched.

@@ -3,7 +3,7 @@
 
 use crate::drops::touches;
 use crate::index::{freed, used, Key, MARKS, SATP, START};
-use crate::random::Random;
+use crate::support::random::Random;
 use emuko_x64_blocks::{BlockIndex, BucketIndex, CodeStore, Entry, InsertRefusal, NativeBlock};
 use std::collections::HashMap;
 use std::ops::Range;

@@ -7,9 +7,9 @@ use crate::drops::touches;
 use crate::entered::{List, Seen as Entered};
 use crate::index::{Key, SATP, START};
 use crate::index_random::Indexing;
-use crate::machine::{helpers, Machine};
-use crate::random::Random;
-use crate::words;
+use crate::support::machine::{helpers, Machine};
+use crate::support::random::Random;
+use crate::support::words;
 use emuko_x64_blocks::{
     translate, word_kind, Block, BlockIndex, BucketIndex, CodeStore, Entry, NativeBlock, Request,
     Run, WordKind, GREATEST_BLOCK,

@@ -5,10 +5,10 @@
 use crate::against_original::{Comparison, Size};
 use crate::compressed::in_line;
 use crate::fence_i::is_fence_i;
-use crate::random::Random;
 use crate::reserved_jalr::is_reserved_jalr;
 use crate::rest_of_m::rest_of_m;
-use crate::words;
+use crate::support::random::Random;
+use crate::support::words;
 use emuko_x64_blocks::{expansion, word_kind, Helpers, Refusal, Request, WordKind, GREATEST_BLOCK};
 
 const LIMITS: [u32; 5] = [0, 1, 15, 16, 31];

@@ -9,15 +9,15 @@
 
 use crate::compressed::{before_in_line, first_in_line};
 use crate::fence_i::{cut, instructions_to_fence_i, limit_to_fence_i};
-use crate::judged::{judged, with_stand_ins};
-use crate::random::Random;
-use crate::requests::{self, Wanted};
 use crate::reserved_jalr::{ends_block, first_reserved};
 use crate::rest_of_m::{first_of_the_rest, put_bodies};
 use crate::run::needed;
 use crate::spans;
-use crate::words;
-use emuko_original::{Access, Answer, Compiled, Emuko, Linked, Memory, Original, CODE_SIZE};
+use crate::support::judged::{judged, with_stand_ins};
+use crate::support::random::Random;
+use crate::support::requests::{self, of_the_original, Wanted};
+use crate::support::words;
+use emuko_original::{Access, Answer, Asked, Compiled, Emuko, Linked, Memory, Original, CODE_SIZE};
 use std::fs;
 use std::process::Command;
 
@@ -64,29 +64,14 @@ impl Both {
     }
 
     /// The answer that both give, the original to the run up to a FENCE.I with stand-ins, and its bytes.
-    fn translate(
-        &mut self,
-        start: u64,
-        limit: u32,
-        halfwords: &[u16],
-        helpers: [u64; 2],
-    ) -> (Answer, &[u8]) {
+    fn translate(&mut self, asked: Asked) -> (Answer, &[u8]) {
         let [original, linked] = &mut self.bytes;
         original.clear();
         linked.clear();
-        let expected = judged(
-            &mut self.original,
-            start,
-            limit,
-            halfwords,
-            helpers,
-            original,
-        );
-        let answer = self
-            .linked
-            .translate(start, limit, halfwords, helpers, linked);
-        assert_eq!(answer, expected, "{start:x} {limit} {halfwords:x?}");
-        assert!(original == linked, "{start:x} {limit} {halfwords:x?}");
+        let expected = judged(&mut self.original, asked, original);
+        let answer = self.linked.translate(asked, linked);
+        assert_eq!(answer, expected, "{asked:x?}");
+        assert!(original == linked, "{asked:x?}");
         (answer, linked)
     }
 
@@ -138,7 +123,13 @@ impl Both {
     /// found there.
     fn compare_block(&mut self, compiled: &Compiled, run: &[u16], pc: u64, limit: u32) {
         let [bytes, _] = &mut self.bytes;
-        let answer = judged(&mut self.judge, pc, limit, run, [0, 0], bytes);
+        let asked = Asked {
+            start: pc,
+            limit,
+            halfwords: run,
+            helpers: [0, 0],
+        };
+        let answer = judged(&mut self.judge, asked, bytes);
         let Answer::Block(count) = answer else {
             panic!("{answer:?}: {run:x?} {limit}");
         };
@@ -232,8 +223,7 @@ fn corpus_reply(line: &str, both: &mut Both) -> String {
 
 fn corpus_translation(wanted: &Wanted, both: &mut Both) -> String {
     let request = wanted.request();
-    let helpers = [request.helpers.halfword, request.helpers.memory];
-    let (answer, bytes) = both.translate(request.start, request.limit, request.halfwords, helpers);
+    let (answer, bytes) = both.translate(of_the_original(&request));
     match answer {
         // emuko has no lent output; document 01 adds number 5.
         Answer::Block(_) if wanted.output < 4099 => "5".to_string(),
@@ -275,7 +265,11 @@ fn random_requests() {
     for _ in 0..60_000 {
         let wanted = requests::wanted(&mut r);
         let request = wanted.request();
-        let (answer, _) = both.translate(request.start, request.limit, request.halfwords, HELPERS);
+        let helpers = HELPERS;
+        let (answer, _) = both.translate(Asked {
+            helpers,
+            ..of_the_original(&request)
+        });
         let kind = match answer {
             Answer::Block(_) => 0,
             Answer::LimitZero => 1,
@@ -691,6 +685,14 @@ fn a_full_store() {
 #[test]
 #[ignore = "run by `traces`"]
 fn traced() {
+    fn asked(start: u64, limit: u32, halfwords: &[u16]) -> Asked<'_> {
+        Asked {
+            start,
+            limit,
+            halfwords,
+            helpers: HELPERS,
+        }
+    }
     /// `seen` is as much of a run as the emulator is given.
     fn trace<E: Emuko>(seen: fn(&[u16]) -> &[u16]) {
         let mut emuko = E::new(CODE_SIZE);
@@ -702,10 +704,10 @@ fn traced() {
             let run = with_stand_ins(before_in_line(&run));
             let start = requests::start(&mut r);
             let limit = requests::limit(&mut r);
-            emuko.translate(start, limit, seen(&run), HELPERS, &mut Vec::new());
+            emuko.translate(asked(start, limit, seen(&run)), &mut Vec::new());
         }
         let run = words::halves(0x0000_0073);
-        emuko.translate(BASE, 64, &run, HELPERS, &mut Vec::new());
+        emuko.translate(asked(BASE, 64, &run), &mut Vec::new());
     }
     match std::env::var("EMUKO_TRACED").as_deref() {
         Ok("original") => trace::<Original>(cut),
@@ -715,7 +717,7 @@ fn traced() {
             linked.set_trace(true);
             // C.NOP; ADDI x1, x0, 5; C.MV a0, a1; C.LW a0, 0(a0)
             let run = [0x0001, 0x0093, 0x0050, 0x852E, 0x4108, 0x0001];
-            linked.translate(BASE, 64, &run, HELPERS, &mut Vec::new());
+            linked.translate(asked(BASE, 64, &run), &mut Vec::new());
         }
         _ => {}
     }

@@ -23,23 +23,17 @@ mod guests;
 mod in_c;
 mod index;
 mod index_random;
-mod judged;
 #[cfg(all(target_arch = "x86_64", target_os = "linux"))]
 mod kept;
 mod kinds;
 mod linked;
 #[cfg(all(target_arch = "x86_64", target_os = "linux"))]
-mod machine;
-#[cfg(all(target_arch = "x86_64", target_os = "linux"))]
 mod manual;
 mod papers;
 mod placing;
-mod random;
 mod readme;
-mod requests;
 mod reserved_jalr;
 mod rest_of_m;
 mod run;
-mod runs;
 mod spans;
-mod words;
+mod support;

@@ -1,8 +1,8 @@
 //! Placing: replies and every byte of the store against the original Rust's `alloc`.
 
-use crate::machine::memory_at;
-use crate::random::Random;
-use crate::requests::Lent;
+use crate::support::mapped::memory_at;
+use crate::support::random::Random;
+use crate::support::requests::Lent;
 use emuko_original::{Emuko, Original};
 use emuko_x64_blocks::{place, translate, CodeStore, PlaceRefusal, Placed, Request};
 

@@ -2,10 +2,10 @@
 //! taken, and leave no byte. The original is asked for the run with ECALL in the place of each: that it does not take, and its block has no
 //! byte of it. So it says everything of a reply but which word number 4 names.
 
-use crate::random::Random;
-use crate::requests;
-use crate::runs::{asked, replaced, words, END};
-use crate::words::halves;
+use crate::support::random::Random;
+use crate::support::requests;
+use crate::support::runs::{asked, replaced, words, END};
+use crate::support::words::halves;
 use emuko_original::{Answer, Emuko, Original, CODE_SIZE};
 use emuko_x64_blocks::{
     rules, translate, word_kind, BlockIndex, CodeStore, Entry, NativeBlock, Refusal, Request,

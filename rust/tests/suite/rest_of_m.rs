@@ -4,10 +4,10 @@
 //! below; what they do is judged by entering them (module `entered_m`), and how they read by objdump (checks/outsiders.py).
 
 use crate::fence_i::cut;
-use crate::random::Random;
-use crate::requests;
-use crate::runs::{asked, replaced, words, END};
-use crate::words::halves;
+use crate::support::random::Random;
+use crate::support::requests;
+use crate::support::runs::{asked, replaced, words, END};
+use crate::support::words::halves;
 use emuko_original::{Answer, Emuko, Original, CODE_SIZE};
 use emuko_x64_blocks::{translate, Request, GREATEST_BLOCK};
 
@@ -43,131 +43,86 @@ pub fn rest_of_m(word: u32) -> Option<usize> {
     of_m(word)?.checked_sub(2)
 }
 
-const MULH: &[u8] = &[
-    0x4C, 0x89, 0xD0, // mov rax, r10
-    0x49, 0xF7, 0xEB, // imul r11
-    0x49, 0x89, 0xD2, // mov r10, rdx
-];
+/// A word's host code between its loads and its store, in parts that words have in common. a is in R10, b in R11, and R10 becomes the result.
+type Body = &'static [&'static [u8]];
 
-/// The unsigned product's upper half, less b where a is negative.
-const MULHSU: &[u8] = &[
+const RAX_IS_A: &[u8] = &[0x4C, 0x89, 0xD0]; // mov rax, r10
+const RDX_IS_A: &[u8] = &[0x4C, 0x89, 0xD2]; // mov rdx, r10
+const IS_RAX: &[u8] = &[0x49, 0x89, 0xC2]; // mov r10, rax
+const IS_RDX: &[u8] = &[0x49, 0x89, 0xD2]; // mov r10, rdx
+const LOW_A: &[u8] = &[0x4D, 0x63, 0xD2]; // movsxd r10, r10d
+const LOW_B: &[u8] = &[0x4D, 0x63, 0xDB]; // movsxd r11, r11d
+const ALL_ONES: &[u8] = &[0x48, 0x83, 0xC8, 0xFF]; // or rax, -1
+const MUL: &[u8] = &[0x49, 0xF7, 0xE3]; // mul r11
+const IMUL: &[u8] = &[0x49, 0xF7, 0xEB]; // imul r11
+
+/// RCX becomes b + 1, which is 0 or 1 where a signed division is left out.
+const RCX_IS_B_PLUS_1: &[u8] = &[
+    0x4C, 0x89, 0xD9, // mov rcx, r11
+    0x48, 0x83, 0xC1, 0x01, // add rcx, 1
+];
+/// The quotient where the division is left out: -a where b is -1, and -1 where b is 0.
+const QUOTIENT_WITHOUT: &[u8] = &[
     0x4C, 0x89, 0xD0, // mov rax, r10
-    0x49, 0xF7, 0xE3, // mul r11
+    0x49, 0x0F, 0xAF, 0xC3, // imul rax, r11
+    0x48, 0x29, 0xC8, // sub rax, rcx
+];
+/// The remainder there: 0 where b is -1, and a where b is 0.
+const REMAINDER_WITHOUT: &[u8] = &[
+    0x4C, 0x89, 0xD2, // mov rdx, r10
+    0x48, 0x0F, 0xAF, 0xD1, // imul rdx, rcx
+];
+const SIGNED_64: &[u8] = &[
+    0x48, 0x83, 0xF9, 0x02, // cmp rcx, 2
+    0x72, 0x08, // jb over the division
+    0x4C, 0x89, 0xD0, // mov rax, r10
+    0x48, 0x99, // cqo
+    0x49, 0xF7, 0xFB, // idiv r11
+];
+const SIGNED_32: &[u8] = &[
+    0x48, 0x83, 0xF9, 0x02, // cmp rcx, 2
+    0x72, 0x07, // jb over the division
+    0x4C, 0x89, 0xD0, // mov rax, r10
+    0x99, // cdq
+    0x41, 0xF7, 0xFB, // idiv r11d
+];
+const UNSIGNED_64: &[u8] = &[
+    0x4D, 0x21, 0xDB, // and r11, r11
+    0x74, 0x08, // je over the division
+    0x4C, 0x89, 0xD0, // mov rax, r10
+    0x31, 0xD2, // xor edx, edx
+    0x49, 0xF7, 0xF3, // div r11
+];
+const UNSIGNED_32: &[u8] = &[
+    0x45, 0x21, 0xDB, // and r11d, r11d
+    0x74, 0x08, // je over the division
+    0x4C, 0x89, 0xD0, // mov rax, r10
+    0x31, 0xD2, // xor edx, edx
+    0x41, 0xF7, 0xF3, // div r11d
+];
+/// The unsigned product's upper half, less b where a is negative.
+const LESS_B_WHERE_A_IS_NEGATIVE: &[u8] = &[
     0x49, 0xC1, 0xFA, 0x3F, // sar r10, 63
     0x4D, 0x0F, 0xAF, 0xD3, // imul r10, r11
     0x49, 0x01, 0xD2, // add r10, rdx
 ];
 
-const MULHU: &[u8] = &[
-    0x4C, 0x89, 0xD0, // mov rax, r10
-    0x49, 0xF7, 0xE3, // mul r11
-    0x49, 0x89, 0xD2, // mov r10, rdx
-];
+const MULH: Body = &[RAX_IS_A, IMUL, IS_RDX];
+const MULHSU: Body = &[RAX_IS_A, MUL, LESS_B_WHERE_A_IS_NEGATIVE];
+const MULHU: Body = &[RAX_IS_A, MUL, IS_RDX];
+const DIV: Body = &[RCX_IS_B_PLUS_1, QUOTIENT_WITHOUT, SIGNED_64, IS_RAX];
+const DIVU: Body = &[ALL_ONES, UNSIGNED_64, IS_RAX];
+const REM: Body = &[RCX_IS_B_PLUS_1, REMAINDER_WITHOUT, SIGNED_64, IS_RDX];
+const REMU: Body = &[RDX_IS_A, UNSIGNED_64, IS_RDX];
+#[rustfmt::skip]
+const DIVW: Body = &[LOW_A, LOW_B, RCX_IS_B_PLUS_1, QUOTIENT_WITHOUT, SIGNED_32, IS_RAX, LOW_A];
+const DIVUW: Body = &[ALL_ONES, UNSIGNED_32, IS_RAX, LOW_A];
+#[rustfmt::skip]
+const REMW: Body = &[LOW_A, LOW_B, RCX_IS_B_PLUS_1, REMAINDER_WITHOUT, SIGNED_32, IS_RDX, LOW_A];
+const REMUW: Body = &[RDX_IS_A, UNSIGNED_32, IS_RDX, LOW_A];
 
-const DIV: &[u8] = &[
-    0x4C, 0x89, 0xD9, // mov rcx, r11
-    0x48, 0x83, 0xC1, 0x01, // add rcx, 1
-    0x4C, 0x89, 0xD0, // mov rax, r10
-    0x49, 0x0F, 0xAF, 0xC3, // imul rax, r11
-    0x48, 0x29, 0xC8, // sub rax, rcx
-    0x48, 0x83, 0xF9, 0x02, // cmp rcx, 2
-    0x72, 0x08, // jb over the division
-    0x4C, 0x89, 0xD0, // mov rax, r10
-    0x48, 0x99, // cqo
-    0x49, 0xF7, 0xFB, // idiv r11
-    0x49, 0x89, 0xC2, // mov r10, rax
-];
-
-const DIVU: &[u8] = &[
-    0x48, 0x83, 0xC8, 0xFF, // or rax, -1
-    0x4D, 0x21, 0xDB, // and r11, r11
-    0x74, 0x08, // je over the division
-    0x4C, 0x89, 0xD0, // mov rax, r10
-    0x31, 0xD2, // xor edx, edx
-    0x49, 0xF7, 0xF3, // div r11
-    0x49, 0x89, 0xC2, // mov r10, rax
-];
-
-const REM: &[u8] = &[
-    0x4C, 0x89, 0xD9, // mov rcx, r11
-    0x48, 0x83, 0xC1, 0x01, // add rcx, 1
-    0x4C, 0x89, 0xD2, // mov rdx, r10
-    0x48, 0x0F, 0xAF, 0xD1, // imul rdx, rcx
-    0x48, 0x83, 0xF9, 0x02, // cmp rcx, 2
-    0x72, 0x08, // jb over the division
-    0x4C, 0x89, 0xD0, // mov rax, r10
-    0x48, 0x99, // cqo
-    0x49, 0xF7, 0xFB, // idiv r11
-    0x49, 0x89, 0xD2, // mov r10, rdx
-];
-
-const REMU: &[u8] = &[
-    0x4C, 0x89, 0xD2, // mov rdx, r10
-    0x4D, 0x21, 0xDB, // and r11, r11
-    0x74, 0x08, // je over the division
-    0x4C, 0x89, 0xD0, // mov rax, r10
-    0x31, 0xD2, // xor edx, edx
-    0x49, 0xF7, 0xF3, // div r11
-    0x49, 0x89, 0xD2, // mov r10, rdx
-];
-
-const DIVW: &[u8] = &[
-    0x4D, 0x63, 0xD2, // movsxd r10, r10d
-    0x4D, 0x63, 0xDB, // movsxd r11, r11d
-    0x4C, 0x89, 0xD9, // mov rcx, r11
-    0x48, 0x83, 0xC1, 0x01, // add rcx, 1
-    0x4C, 0x89, 0xD0, // mov rax, r10
-    0x49, 0x0F, 0xAF, 0xC3, // imul rax, r11
-    0x48, 0x29, 0xC8, // sub rax, rcx
-    0x48, 0x83, 0xF9, 0x02, // cmp rcx, 2
-    0x72, 0x07, // jb over the division
-    0x4C, 0x89, 0xD0, // mov rax, r10
-    0x99, // cdq
-    0x41, 0xF7, 0xFB, // idiv r11d
-    0x49, 0x89, 0xC2, // mov r10, rax
-    0x4D, 0x63, 0xD2, // movsxd r10, r10d
-];
-
-const DIVUW: &[u8] = &[
-    0x48, 0x83, 0xC8, 0xFF, // or rax, -1
-    0x45, 0x21, 0xDB, // and r11d, r11d
-    0x74, 0x08, // je over the division
-    0x4C, 0x89, 0xD0, // mov rax, r10
-    0x31, 0xD2, // xor edx, edx
-    0x41, 0xF7, 0xF3, // div r11d
-    0x49, 0x89, 0xC2, // mov r10, rax
-    0x4D, 0x63, 0xD2, // movsxd r10, r10d
-];
-
-const REMW: &[u8] = &[
-    0x4D, 0x63, 0xD2, // movsxd r10, r10d
-    0x4D, 0x63, 0xDB, // movsxd r11, r11d
-    0x4C, 0x89, 0xD9, // mov rcx, r11
-    0x48, 0x83, 0xC1, 0x01, // add rcx, 1
-    0x4C, 0x89, 0xD2, // mov rdx, r10
-    0x48, 0x0F, 0xAF, 0xD1, // imul rdx, rcx
-    0x48, 0x83, 0xF9, 0x02, // cmp rcx, 2
-    0x72, 0x07, // jb over the division
-    0x4C, 0x89, 0xD0, // mov rax, r10
-    0x99, // cdq
-    0x41, 0xF7, 0xFB, // idiv r11d
-    0x49, 0x89, 0xD2, // mov r10, rdx
-    0x4D, 0x63, 0xD2, // movsxd r10, r10d
-];
-
-const REMUW: &[u8] = &[
-    0x4C, 0x89, 0xD2, // mov rdx, r10
-    0x45, 0x21, 0xDB, // and r11d, r11d
-    0x74, 0x08, // je over the division
-    0x4C, 0x89, 0xD0, // mov rax, r10
-    0x31, 0xD2, // xor edx, edx
-    0x41, 0xF7, 0xF3, // div r11d
-    0x49, 0x89, 0xD2, // mov r10, rdx
-    0x4D, 0x63, 0xD2, // movsxd r10, r10d
-];
-
-/// In the order of the eleven: a is in R10, b in R11, and R10 becomes the result.
-const BODIES: [&[u8]; 11] = [
+/// In the order of the eleven.
+const BODIES: [Body; 11] = [
     MULH, MULHSU, MULHU, DIV, DIVU, REM, REMU, DIVW, DIVUW, REMW, REMUW,
 ];
 
@@ -198,7 +153,7 @@ pub fn put_bodies(original: &Original, halfwords: &[u16], count: u32, bytes: &mu
         if let Some(which) = rest_of_m(word) {
             assert_eq!(bytes[at + LOADS..][..ADD.len()], ADD);
             put.extend_from_slice(&bytes[copied..at + LOADS]);
-            put.extend_from_slice(BODIES[which]);
+            put.extend(BODIES[which].concat());
             copied = at + LOADS + ADD.len();
         }
         original.kind(stand_in(word).unwrap_or(word), &mut emitted);
@@ -301,7 +256,7 @@ fn stand_ins_by_hand() {
 /// The bodies' lengths, as request Q-2's words are long: 14 bytes of loads before them, 7 of a store behind them.
 #[test]
 fn lengths_of_bodies() {
-    let lengths = BODIES.map(|body| body.len());
+    let lengths = BODIES.map(|body| body.concat().len());
     assert_eq!(lengths, [9, 17, 9, 34, 20, 31, 19, 42, 23, 39, 22]);
     for ((_, opcode, funct3), length) in M[2..].iter().zip(lengths) {
         // rd, rs1, rs2 are x3, x1, x2; then x0 in the place of x3.

@@ -2,8 +2,8 @@
 
 use crate::compressed::in_line;
 use crate::fence_i::{cut, instructions_to_fence_i};
-use crate::random::Random;
-use crate::requests;
+use crate::support::random::Random;
+use crate::support::requests;
 use emuko_x64_blocks::{translate, word_kind, Refusal, Request, Run, WordKind, GREATEST_BLOCK};
 
 /// The halfwords asked for, by index, and the run; or the index of the one in the first instruction that is missing.

@@ -2,10 +2,10 @@
 //! counts. Module `against_original` does so with the original's counts, at every request that it compares; here are the request's cases,
 //! every span that there is, and the corpus.
 
-use crate::judged::judged;
-use crate::random::Random;
-use crate::requests::{self, Wanted};
-use crate::words::{self, halves};
+use crate::support::judged::judged;
+use crate::support::random::Random;
+use crate::support::requests::{self, of_the_original, Wanted};
+use crate::support::words::{self, halves};
 use emuko_original::{Answer, Emuko, Original, CODE_SIZE};
 use emuko_x64_blocks::{translate, Refusal, Request, GREATEST_BLOCK, MOST_SPAN, MOST_STEPS};
 use std::collections::BTreeSet;
@@ -160,9 +160,8 @@ fn corpus() {
     let (mut blocks, mut spans) = (0, BTreeSet::new());
     for wanted in asked.filter_map(|(request, _)| Wanted::of_line(request)) {
         let request = wanted.request();
-        let (start, limit, run) = (request.start, request.limit, request.halfwords);
-        let helpers = [request.helpers.halfword, request.helpers.memory];
-        let answer = judged(&mut original, start, limit, run, helpers, &mut bytes);
+        let run = request.halfwords;
+        let answer = judged(&mut original, of_the_original(&request), &mut bytes);
         let expected = match answer {
             Answer::Block(_) if wanted.output < GREATEST_BLOCK => None,
             Answer::Block(count) => Some((count, of(run, count))),

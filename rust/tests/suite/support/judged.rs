@@ -6,8 +6,8 @@ use crate::compressed::{expanded, InPlace};
 use crate::fence_i::cut;
 use crate::reserved_jalr::{self, ECALL};
 use crate::rest_of_m::{self, put_bodies};
-use crate::runs::{replaced, words};
-use emuko_original::{Answer, Original};
+use crate::support::runs::{replaced, words};
+use emuko_original::{Answer, Asked, Original};
 use std::borrow::Cow;
 
 /// The run with all stand-ins for words.
@@ -19,23 +19,14 @@ pub fn with_stand_ins(halfwords: &[u16]) -> Cow<'_, [u16]> {
 
 /// What has to come out here, number 5 apart: what the original answers, with the bodies of the rest of M, and with the word itself in
 /// number 4.
-pub fn judged(
-    original: &mut Original,
-    start: u64,
-    limit: u32,
-    halfwords: &[u16],
-    helpers: [u64; 2],
-    bytes: &mut Vec<u8>,
-) -> Answer {
-    let halfwords = cut(halfwords);
+pub fn judged(original: &mut Original, asked: Asked, bytes: &mut Vec<u8>) -> Answer {
+    let halfwords = cut(asked.halfwords);
     let run = expanded(halfwords);
     let in_place = InPlace {
-        start,
-        halfwords,
+        asked: Asked { halfwords, ..asked },
         run: &with_stand_ins(&run),
-        helpers,
     };
-    let answer = in_place.translated(original, limit, bytes);
+    let answer = in_place.translated(original, bytes);
     match answer {
         Answer::Block(count) => put_bodies(original, halfwords, count, bytes),
         Answer::NotTaken(ECALL) => return Answer::NotTaken(words(halfwords).next().unwrap()),

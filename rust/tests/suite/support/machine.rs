@@ -1,9 +1,9 @@
 //! The host's side of an entered block: memory that may be executed, slots and a stack among words that tell their place, registers and
 //! flags that hold anything, helpers that note what they find.
 
-use crate::random::Random;
+use super::mapped::executable;
+use super::random::Random;
 use emuko_x64_blocks::{CodeStore, Helpers, GREATEST_BLOCK};
-use std::ffi::c_void;
 use std::mem::offset_of;
 use std::ops::Range;
 use std::sync::{Mutex, MutexGuard};
@@ -174,14 +174,6 @@ extern "C" {
     fn emuko_test_back();
     fn emuko_test_helper16();
     fn emuko_test_helper_mem();
-    fn mmap(
-        addr: *mut c_void,
-        length: usize,
-        protection: i32,
-        flags: i32,
-        file: i32,
-        offset: i64,
-    ) -> *mut c_void;
 }
 
 fn address(function: unsafe extern "C" fn()) -> u64 {
@@ -194,38 +186,6 @@ pub fn helpers() -> Helpers {
         halfword: address(emuko_test_helper16),
         memory: address(emuko_test_helper_mem),
     }
-}
-
-const PRIVATE_ANONYMOUS: i32 = 0x22;
-
-/// A new mapping, at an address if one is given.
-fn mapped(address: usize, length: usize, protection: i32, flags: i32) -> &'static mut [u8] {
-    // SAFETY: A new mapping that nothing else knows of, over no other, and that is never unmapped.
-    unsafe {
-        let memory = mmap(address as *mut c_void, length, protection, flags, -1, 0);
-        assert_ne!(memory as isize, -1, "no such memory");
-        std::slice::from_raw_parts_mut(memory.cast(), length)
-    }
-}
-
-/// Memory that can be read, written and executed.
-pub fn executable(length: usize) -> &'static mut [u8] {
-    const READ_WRITE_EXECUTE: i32 = 7;
-    mapped(0, length, READ_WRITE_EXECUTE, PRIVATE_ANONYMOUS)
-}
-
-/// Memory that stands at an address.
-pub fn memory_at(address: usize, length: usize) -> &'static mut [u8] {
-    const READ_WRITE: i32 = 3;
-    const FIXED_NOREPLACE: i32 = 0x10_0000;
-    let memory = mapped(
-        address,
-        length,
-        READ_WRITE,
-        PRIVATE_ANONYMOUS | FIXED_NOREPLACE,
-    );
-    assert_eq!(memory.as_ptr() as usize, address);
-    memory
 }
 
 /// Words on each side of the 32 slots.

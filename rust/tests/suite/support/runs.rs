@@ -1,8 +1,8 @@
 //! Runs of halfwords as instructions, runs with other words in them, and what the original Rust answers to a run.
 
 use crate::compressed::in_line;
-use crate::words::halves;
-use emuko_original::{Answer, Emuko, Original};
+use crate::support::words::halves;
+use emuko_original::{Answer, Asked, Emuko, Original};
 use std::borrow::Cow;
 use std::ops::Range;
 
@@ -54,6 +54,12 @@ pub fn replaced(halfwords: &[u16], other: impl Fn(u32) -> Option<u32>) -> Cow<'_
 /// The original's answer and bytes.
 pub fn asked(original: &mut Original, start: u64, limit: u32, run: &[u16]) -> (Answer, Vec<u8>) {
     let mut bytes = Vec::new();
-    let answer = original.translate(start, limit, run, [1, 2], &mut bytes);
+    let asked = Asked {
+        start,
+        limit,
+        halfwords: run,
+        helpers: [1, 2],
+    };
+    let answer = original.translate(asked, &mut bytes);
     (answer, bytes)
 }

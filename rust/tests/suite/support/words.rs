@@ -1,6 +1,6 @@
 //! Guest instructions of every sort that document 01 and the requests name.
 
-use crate::random::Random;
+use crate::support::random::Random;
 
 /// What stands in bits 31 to 20 of a word besides its registers.
 #[derive(Clone, Copy)]

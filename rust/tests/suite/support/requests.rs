@@ -1,10 +1,21 @@
 //! Random requests, and outputs whose bytes tell where they stand.
 
 use crate::compressed;
-use crate::random::Random;
-use crate::runs::instructions;
-use crate::words;
+use crate::support::random::Random;
+use crate::support::runs::instructions;
+use crate::support::words;
+use emuko_original::Asked;
 use emuko_x64_blocks::{Helpers, Request, GREATEST_BLOCK};
+
+/// What the original is asked for by a request of this crate.
+pub fn of_the_original<'a>(request: &Request<'a>) -> Asked<'a> {
+    Asked {
+        start: request.start,
+        limit: request.limit,
+        halfwords: request.halfwords,
+        helpers: [request.helpers.halfword, request.helpers.memory],
+    }
+}
 
 pub struct Wanted {
     pub start: u64,
