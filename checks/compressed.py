@@ -1,10 +1,11 @@
 #!/usr/bin/env python3
-"""The compressed halfwords (Q-7), expanded by GNU binutils, and who says the same. Not part of the gate.
+"""The compressed halfwords (Q-7), expanded by GNU binutils, and who says the same. The gate runs it with --written.
 
     checks/compressed.py [ORACLE] [--spoil]     compares
+    checks/compressed.py --written [--spoil]    compares the definition with the table as it is written: needs no binutils
     checks/compressed.py --write                writes rust/tests/suite/rv64c.txt
 
-Needs riscv64-linux-gnu-objdump, -as and -objcopy (Debian: binutils-riscv64-linux-gnu). objdump names each of the 49,152 halfwords whose low
+Without --written it needs riscv64-linux-gnu-objdump, -as and -objcopy (Debian: binutils-riscv64-linux-gnu). objdump names each of the 49,152 halfwords whose low
 two bits are not 3; the name is rewritten to the base instruction that the RISC-V manual's chapter "C" has for it (`BASE` below), and that is
 assembled for RV64 without compressed instructions. What objdump does not name is reserved, and so is 6101 (C.ADDI16SP with immediate 0),
 which it names.
@@ -15,6 +16,9 @@ which it names.
 3. The translator, where ORACLE is given: the program that replies.py asks. The program replay (`rt run < stdin` in crates/replay leaves it in
    out/) translates each halfword, alone and, on both sides of 2^64, behind C.NOP. Its replies have to be what replies.py makes of the
    original's: by the table's words for the halfwords in line, and by the helper's block for all others.
+
+With --written the definition has to expand each halfword of the table to the table's word, and any other to none, or to a load, a store,
+floating point or EBREAK.
 
 With --spoil each part is given something else (a word of the table, two bits of an immediate exchanged, a byte of a reply), and must notice.
 Exit code 0 where all agrees (with --spoil: where every part noticed), else 1.
@@ -232,12 +236,23 @@ def compare_table(in_line, spoil):
     return f"table: {len(in_line)} halfwords in line, {len(in_line) - ending} straight and {ending} ending", differences(written, in_line)
 
 
-def compare_definition(words, spoil):
+def defined(spoil):
     with open(DEFINITION, encoding="utf-8") as file:
         text = file.read()
     if spoil:
         text = text.replace("bit 4 ∷ bit 6 ∷ 8 ∶ 7 ∷ bit 5", "bit 4 ∷ bit 5 ∷ 8 ∶ 7 ∷ bit 6")
-    return f"definition: {len(words)} halfwords with a word, {len(ALL) - len(words)} reserved", differences(definition(text), words)
+    return definition(text)
+
+
+def compare_definition(words, spoil):
+    return f"definition: {len(words)} halfwords with a word, {len(ALL) - len(words)} reserved", differences(defined(spoil), words)
+
+
+def compare_written(spoil):
+    """The definition's words with the table's: LOAD, LOAD_FP, STORE, STORE_FP and SYSTEM (EBREAK) do not stand in the table."""
+    words, table = defined(spoil), halfwords.in_line()
+    in_line = {h: word for h, word in words.items() if word is not None and word & 0x7F not in (0x03, 0x07, 0x23, 0x27, 0x73)}
+    return f"definition: {len(in_line)} halfwords in line, {len(ALL) - len(in_line)} others", differences(in_line, table)
 
 
 def compare_translator(oracle, spoil):
@@ -256,16 +271,20 @@ def main():
     parser = argparse.ArgumentParser(description=__doc__, formatter_class=argparse.RawDescriptionHelpFormatter)
     parser.add_argument("oracle", nargs="?")
     parser.add_argument("--write", action="store_true")
+    parser.add_argument("--written", action="store_true")
     parser.add_argument("--spoil", action="store_true")
     options = parser.parse_args()
-    words, in_line = by_binutils()
-    if options.write:
-        with open(halfwords.TABLE, "w", encoding="ascii") as file:
-            file.write(table(in_line))
-        return 0
-    parts = [compare_table(in_line, options.spoil), compare_definition(words, options.spoil)]
-    if options.oracle:
-        parts.append(compare_translator(options.oracle, options.spoil))
+    if options.written:
+        parts = [compare_written(options.spoil)]
+    else:
+        words, in_line = by_binutils()
+        if options.write:
+            with open(halfwords.TABLE, "w", encoding="ascii") as file:
+                file.write(table(in_line))
+            return 0
+        parts = [compare_table(in_line, options.spoil), compare_definition(words, options.spoil)]
+        if options.oracle:
+            parts.append(compare_translator(options.oracle, options.spoil))
     for compared, wrong in parts:
         print(f"{compared}: {len(wrong)} differ" + "".join(f"\n    {line[:160]}" for line in wrong[:0 if options.spoil else 5]))
     return 1 if any(bool(wrong) != options.spoil for _, wrong in parts) else 0

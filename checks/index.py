@@ -1,7 +1,9 @@
 #!/usr/bin/env python3
-"""The index of blocks (Q-4, Q-5), held against the request's text. Not part of the gate; its lines in crates/replay are.
+"""The index of blocks (Q-4, Q-5), held against the request's text. The gate runs it with --written, and the program on the lines of
+crates/replay.
 
     checks/index.py                 the table below, the lines of crates/replay, and 200,000 random lines asked of the program replay
+    checks/index.py --written       the table below and the lines and replies that crates/replay has: needs no program
     checks/index.py --lines N       so many random lines
     checks/index.py --spoil         every reply that the program gives is changed, and each must be noticed
     checks/index.py --write         writes the I lines of crates/replay/stdin and stdout anew
@@ -483,20 +485,24 @@ def write():
     print(f"{len(new)} I lines, {answers.count(BAD)} of them no requests")
 
 
-def compare(n, spoil):
-    """Each part's lines, what the program says to them, and what the judges say."""
+def written():
+    """Lines whose replies stand in a file: their name, they themselves, the replies."""
     lines, replies, mine = corpus()
-    judges = [Judges() for _ in range(3)]
-    parts = [("the table", *table()), ("crates/replay", [lines[k] for k in mine], [replies[k] for k in mine]),
-             ("random", Lines(None).some(n), None)]
+    return [("the table", *table()), ("crates/replay", [lines[k] for k in mine], [replies[k] for k in mine])]
+
+
+def compare(parts, ask, spoil):
+    """Each part's lines, what is written of them, what the program says to them if it is asked, and what the judges say."""
     missed = 0
-    for (name, part, typed), judge in zip(parts, judges):
+    for name, part, typed in parts:
+        judge = Judges()
         expected = [judge.reply(line) for line in part]
         wrong = differences(part, typed, expected) if typed else []
-        answers = asked(part)
-        if spoil:
-            answers = [answer + "0" for answer in answers]
-        wrong += differences(part, answers, expected)
+        if ask:
+            answers = asked(part)
+            if spoil:
+                answers = [answer + "0" for answer in answers]
+            wrong += differences(part, answers, expected)
         print(f"{name}: {len(part)} lines, {expected.count(BAD)} of them no requests, {judge.by_both} by the dictionary too: "
               f"{len(wrong)} differ")
         print("".join(f"    {line[:200]}\n" for line in wrong[:0 if spoil else 5]), end="")
@@ -504,16 +510,22 @@ def compare(n, spoil):
     return 1 if missed else 0
 
 
+def compare_all(n, spoil):
+    return compare([*written(), ("random", Lines(None).some(n), None)], True, spoil)
+
+
 def main():
     words = sys.argv[1:]
     if words == ["--write"]:
         write()
         return 0
+    if words == ["--written"]:
+        return compare(written(), False, False)
     if words[:1] == ["--lines"] and len(words) == 2:
-        return compare(int(words[1]), False)
+        return compare_all(int(words[1]), False)
     if words not in ([], ["--spoil"]):
         sys.exit(__doc__)
-    return compare(200_000, words == ["--spoil"])
+    return compare_all(200_000, words == ["--spoil"])
 
 
 if __name__ == "__main__":
