@@ -40,7 +40,7 @@ module _ (cs : Codes) (operations : List Operation) (e : Entry) (c : IsCurrent c
       cc
 
   as_it_was : Unchanged k.turn c.request.pc
-  as_it_was = rw (h.made, h.code, h.reach) refl
+  as_it_was = λ r. rw (h.made, h.code, h.reach) refl
 
   may_enter : e.block.span ≤ 2 * k.reach → Current k c.request.pc
   may_enter reach = record {
@@ -51,7 +51,7 @@ module _ (cs : Codes) (operations : List Operation) (e : Entry) (c : IsCurrent c
         let is : c.b ≡ b = its_block b m in
         let span : e.block.span ≡ b.span = ap (λ (x : NativeBlock). x.span) c.has_block ∙ ap (λ (x : Block). x.span) is in
         omega (arith, span, reach);
-    refused = λ r m.
+    refused = λ r m y.
         let same : ◌≡◌ {A = Reply} (block c.b) (refusal r) = sym c.made ∙ sym (entered_reply c.request (codes_after cs c.earlier) (codes_after cs operations) k h) ∙ m in
         absurd (let z : ◌≡◌ {A = ℕ} 0 1 = cc in omega arith);
   }

@@ -10,7 +10,7 @@ use Rattle.agreement.specs.Translation.Replies.{Block, Reply, Reply.block, Reply
 use Rattle.agreement.specs.Statement.Agreement.{Along, At, feed, feed_of, is_refused, start}
 use Rattle.agreement.specs.Statement.Kept.{Kept, turns, Current, CurrentAlong, AgreesNow, AgreementOfKept, AlongNow, ReadsAlike, refuses_now, feed_now, feeds_now}
 use Rattle.agreement.specs.Statement.Machine.{Event, Event.rejected, Event.visited, History, History.end, History.then, RegisterBytes, Turn, Turned, reply}
-use Rattle.agreement.specs.Statement.Premises.{Enterable, Premises, Unchanged}
+use Rattle.agreement.specs.Statement.Premises.{Enterable, Premises, Unchanged, rests_on_code}
 use Rattle.agreement.specs.X86.Memory.{read}
 use Rattle.agreement.specs.X86.State.{State}
 use Rattle.agreement.proofs.Checks.Cases.{words}
@@ -66,21 +66,21 @@ three_kept = first_kept ∷ second_kept ∷ third_kept ∷ []
 
 -- the agreement itself says nothing of them
 first_changed : Unchanged (recoded first_turn now 4) 0x80000000 → ⊥
-unfolding words run_at
-first_changed e = let z : ◌≡◌ {A = ℕ} 0xC1B3 0x4108 = cc in omega arith
+unfolding words run_at translations
+first_changed u = let e = u refl in let z : ◌≡◌ {A = ℕ} 0xC1B3 0x4108 = cc in omega arith
 
 -- 2. The premises, along the manual's run
 
 -- what is asked of each turn, at the manual's pc
-unfoldable MetNow : GuestState → List Kept → Type 0
+unfoldable pub MetNow : GuestState → List Kept → Type 0
 MetNow m [] = Unit
 MetNow m (k ∷ ks) = MeetsAt k.turn m.pc × Current k m.pc
     × ((e : Event) (pc' : ℕ) (rb rb' : RegisterBytes) → Turned m.pc rb k.turn e pc' rb' → At m k.turn e → MetNow (turn (feed k.turn e) m) ks)
 
-abbrev Asked : ℕ → RegisterBytes → List Kept → Type 0
+abbrev pub Asked : ℕ → RegisterBytes → List Kept → Type 0
 Asked pc rb ks = Premises pc rb (turns ks) × CurrentAlong pc rb ks
 
-met_now : (ks : List Kept) (m : GuestState) (rb : RegisterBytes) → m.pc < 2 ^ 64 → SlotsAre rb m → m.registers 0 ≡ 0 → MetNow m ks → Asked m.pc rb ks
+pub met_now : (ks : List Kept) (m : GuestState) (rb : RegisterBytes) → m.pc < 2 ^ 64 → SlotsAre rb m → m.registers 0 ≡ 0 → MetNow m ks → Asked m.pc rb ks
 unfolding MetNow Premises CurrentAlong turns
 met_now [] m rb low sl z h = (tt, tt)
 met_now (k ∷ ks) m rb low sl z h = ((a.typed, a.unchanged, enter, λ e pc' rb' t. (on e pc' rb' t (met_now ks)).0), (h.1, λ e pc' rb' t. (on e pc' rb' t (met_now ks)).1))
@@ -136,7 +136,7 @@ unfolding translations words
 first_current = record {
   spanned = λ b e. rw (first_span b e) same_first;
   fetched = λ b e. rw (first_span b e) (omega arith);
-  refused = λ r e. absurd (let z : ◌≡◌ {A = ℕ} 0 1 = cc in omega arith);
+  refused = λ r e y. absurd (let z : ◌≡◌ {A = ℕ} 0 1 = cc in omega arith);
 }
 
 second_current : Current second_kept 0x80000004
@@ -144,7 +144,7 @@ unfolding translations words
 second_current = record {
   spanned = λ b e. rw (second_span b e) same_second;
   fetched = λ b e. rw (second_span b e) (omega arith);
-  refused = λ r e. absurd (let z : ◌≡◌ {A = ℕ} 0 1 = cc in omega arith);
+  refused = λ r e y. absurd (let z : ◌≡◌ {A = ℕ} 0 1 = cc in omega arith);
 }
 
 third_current : Current third_kept 0x80000006
@@ -152,7 +152,7 @@ unfolding translations words run_at
 third_current = record {
   spanned = λ b e. absurd (let z : ◌≡◌ {A = ℕ} 0 1 = cc in omega arith);
   fetched = λ b e. absurd (let z : ◌≡◌ {A = ℕ} 0 1 = cc in omega arith);
-  refused = λ r e. refl;
+  refused = λ r e y. refl;
 }
 
 allowed : Allowed 0x30008
@@ -255,6 +255,15 @@ pub record Three (es : List Event) : Type 0 where
   pub third_refused : refuses_now third_kept e2 (n2 inside) ≡ true
   pub pc : (manual (feeds_now three_kept es) n0).pc ≡ 0x80000006
 
+-- both replies are blocks
+first_rests : rests_on_code (reply first_turn n0.pc) ≡ true
+unfolding translations words
+first_rests = refl
+
+second_rests : rests_on_code (reply second_turn n1.pc) ≡ true
+unfolding translations words reads_a_turn
+second_rests = refl
+
 first_reads : (read_as first_turn n0).registers 1 ≡ 5
 unfolding reads_a_turn value_op_imm Manual.sign_extend write_x read
 first_reads = refl
@@ -304,7 +313,7 @@ three_turns (e0 ∷ e1 ∷ e2 ∷ es) (then h (then h1 (then h2 hs))) a n = says
     at_end = rw at_n2 (now2.goes ∙ after_refused (n2 u) third_turn e2 (third_refused u) third_at)
 
     first : read_turn (feed_now first_kept e0) n0 ≡ read_as first_turn n0
-    first = n.0.reads ∙ reads_as first_turn e0 n0
+    first = n.0.reads first_rests ∙ reads_as first_turn e0 n0
 
     says : (es : List Event) {pc pc' : ℕ} {rb rb' : RegisterBytes} → History pc rb [] es pc' rb' → Three (e0 ∷ e1 ∷ e2 ∷ es)
     says [] end = record {
@@ -317,7 +326,7 @@ three_turns (e0 ∷ e1 ∷ e2 ∷ es) (then h (then h1 (then h2 hs))) a n = says
       first_x1 = ap (λ (q : Read). q.registers 1) first ∙ first_reads;
       first_pc = ap (λ (q : Read). q.pc) first ∙ first_ends;
       second_taken = now1.refuses ∙ second_taken;
-      second_stop = ap (λ (q : Read). q.stop) (now1.reads ∙ reads_as second_turn e1 n1) ∙ second_calls;
+      second_stop = ap (λ (q : Read). q.stop) (now1.reads second_rests ∙ reads_as second_turn e1 n1) ∙ second_calls;
       third_refused = now2.refuses ∙ third_refused u;
       pc = ap (λ (m : GuestState). m.pc) at_end ∙ helper_pc u;
     }

@@ -94,7 +94,7 @@ pub turn_of_meets : (sp : ℕ) (g : Code) (hs : List ℕ) (r v rax rdx pc : ℕ)
     → r < 32 → rax < 2 ^ 64 → rdx < 2 ^ 64 → MeetsAt (turn_of sp g hs (leaves r v rax rdx)) pc
 turn_of_meets sp g hs r v rax rdx pc s un lr la ld = record {
   typed = record { helper16 = omega arith; helper_mem = omega arith; others = λ k h. omega arith };
-  unchanged = un;
+  unchanged = λ r. un;
   enterable = λ b rb e.
       let n : length b.code ≤ 4099 = no_longer (turn_of sp g hs (leaves r v rax rdx)) pc b e in
       record {
@@ -107,7 +107,7 @@ refused_meets : (pc : ℕ) → MeetsAt refused_turn pc
 unfolding translate run_at
 refused_meets pc = record {
   typed = record { helper16 = omega arith; helper_mem = omega arith; others = λ k h. omega arith };
-  unchanged = refl;
+  unchanged = λ r. refl;
   enterable = λ b rb e. absurd (let z : ◌≡◌ {A = ℕ} 0 1 = cc in omega arith);
 }
 

@@ -14,6 +14,7 @@ use Rattle.agreement.specs.X86.Form.{Instr}
 use Rattle.agreement.specs.X86.Memory.{read}
 use Rattle.agreement.specs.X86.State.{State}
 use Rattle.agreement.proofs.Checks.Cases.{words}
+use Rattle.agreement.proofs.Checks.CasesHold.{translations}
 use Rattle.agreement.proofs.Checks.Example.{zeros}
 use Rattle.agreement.proofs.Checks.ExampleStates.{reads_a_turn}
 use Rattle.agreement.proofs.Checks.PremisesMet.{applied}
@@ -47,8 +48,8 @@ abbrev stale_turn : Turn
 stale_turn = recoded old_turn new_code 4
 
 pub stale_changed : Unchanged stale_turn 0x80000008 → ⊥
-unfolding words run_at
-stale_changed e = let z : ◌≡◌ {A = ℕ} 0x0050 0x0070 = cc in omega arith
+unfolding words run_at translations
+stale_changed u = let e = u refl in let z : ◌≡◌ {A = ℕ} 0x0050 0x0070 = cc in omega arith
 
 -- what the machine does, does not depend on the code
 by_recoded : (t : Turn) (c : Code) (n : ℕ) {i : Instr} {u v : State} {ws : List ℕ} → By t i u v ws → By (recoded t c n) i u v ws

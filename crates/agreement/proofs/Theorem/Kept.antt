@@ -9,14 +9,15 @@ use Rattle.agreement.specs.Riscv.Run.{Feed, GuestState, Read, Stop, Stop.plain, 
 use Rattle.agreement.specs.Translation.Replies.{Block, Refusal, Reply.block, Reply.refusal, translate, walked}
 use Rattle.agreement.specs.Translation.Walk.{counted}
 use Rattle.agreement.specs.Statement.Machine.{RegisterBytes, Event, Event.rejected, Event.visited, Visit, reply, Turned, Turned.skip, Turned.visit}
-use Rattle.agreement.specs.Statement.Premises.{Premises, Unchanged}
+use Rattle.agreement.specs.Statement.Premises.{Premises, Unchanged, rests_on_code}
 use Rattle.agreement.specs.Statement.Agreement.{left_by, feed, feed_of, feeds, is_refused, start}
 use Rattle.agreement.specs.Statement.Kept.{Kept, turns, Current, CurrentAlong, feed_now, feeds_now, refuses_now, ReadsAlike, AlongNow, AgreementOfKept}
 use Rattle.agreement.specs.Laws.{Halfwords, Spans, SpansOf}
-use Rattle.agreement.proofs.Laws.Runs.{front_alike}
+use Rattle.agreement.proofs.Laws.Runs.{front_alike, run_halfwords}
 use Rattle.agreement.proofs.Laws.Spans.{Spanning, spanning}
 use Rattle.agreement.proofs.Laws.Tests.{eqb_no}
-use Rattle.agreement.proofs.Theorem.RefusedAlike.{IsWalk, is_walk, made_halfwords}
+use Rattle.agreement.proofs.Theorem.RefusedAlike.{IsWalk, is_walk, made_halfwords, refused_too}
+use Rattle.agreement.proofs.Theorem.ManualRun.{turn_refused}
 use Rattle.agreement.proofs.Theorem.TurnByTurn.{Led, SlotsAre, led}
 use Rattle.agreement.proofs.Theorem.Agreement.{Result, nothing, manual-cons, one_more, Asked, split, from_start, x0_at_start}
 
@@ -138,40 +139,58 @@ module _ (k : Kept) (m : GuestState) (low : m.pc < 2 ^ 64) (un : Unchanged k.tur
   -- what was read of the code of which the block was made is there to be read
   entered : (b : Block) (v : Visit) → reply k.turn m.pc ≡ block b → ReadsAlike k (visited m.pc b.count v) m
   unfolding feed feed_of feed_now refuses_now
-  entered b v e = record { refuses = refuses; reads = reads; goes = same_turn _ _ m refuses refl reads }
+  entered b v e = record { refuses = refuses; reads = λ y. reads; goes = same_turn _ _ m refuses refl reads }
     where
+      made : k.turn.made ≡ run_at k.turn.code m.pc k.turn.reach
+      made = un (ap rests_on_code e)
+
       h : Halfwords k.turn.made
-      h = made_halfwords k.turn m.pc un
+      h = made_halfwords k.turn m.pc made
 
       front : SameFront b hs k.turn.made
       front n is within =
-          let there : n ≤ length (run_at k.turn.code m.pc k.turn.reach) = rw (← un) within in
+          let there : n ≤ length (run_at k.turn.code m.pc k.turn.reach) = rw (← made) within in
           front_alike k.turn.code k.now m.pc n k.turn.reach k.reach low there (omega (arith, is, current.fetched b e)) (rw is at (current.spanned b e))
-          ∙ ap (take n) (sym un)
+          ∙ ap (take n) (sym made)
 
       reads : read_turn (feed_now k (visited m.pc b.count v)) m ≡ read_turn (feed k.turn (visited m.pc b.count v)) m
       reads =
           reads_again m.pc k.turn.limit k.turn.made k.turn.helper16 k.turn.helper_mem (length k.turn.output) b e h hs front m.registers
-          ∙ ap (λ (l : List ℕ). reading (min k.turn.limit most_steps) m.pc l m.registers) un
+          ∙ ap (λ (l : List ℕ). reading (min k.turn.limit most_steps) m.pc l m.registers) made
 
       taken_now : refused b.count m.pc hs (length k.turn.output) ≡ false
       taken_now =
           accepted_again m.pc k.turn.limit k.turn.made k.turn.helper16 k.turn.helper_mem (length k.turn.output) b e h hs front
 
       taken : refused k.turn.limit m.pc (run_at k.turn.code m.pc k.turn.reach) (length k.turn.output) ≡ false
-      taken = rw (← un) (was m.pc k.turn.limit k.turn.made k.turn.helper16 k.turn.helper_mem (length k.turn.output) b e h).accepted
+      taken = rw (← made) (was m.pc k.turn.limit k.turn.made k.turn.helper16 k.turn.helper_mem (length k.turn.output) b e h).accepted
 
       refuses : refused b.count m.pc hs (length k.turn.output) ≡ is_refused k.turn m
       refuses = taken_now ∙ sym taken
 
-  -- a refused turn reads the code as it is now
+  -- a refused turn is refused by the run of the code as it is now, and reads that where it rests on it
   skipped : (r : Refusal) → reply k.turn m.pc ≡ refusal r → ReadsAlike k (rejected m.pc r) m
   unfolding feed feed_of feed_now left_by refuses_now
-  skipped r e =
-      let same : run_at k.now m.pc k.reach ≡ run_at k.turn.code m.pc k.turn.reach = sym (current.refused r e) ∙ un in
-      let reads : read_turn (feed_now k (rejected m.pc r)) m ≡ read_turn (feed k.turn (rejected m.pc r)) m = rw same refl in
-      let refuses : refuses_now k (rejected m.pc r) m ≡ is_refused k.turn m = rw same refl in
-      record { refuses = refuses; reads = reads; goes = same_turn _ _ m refuses refl reads }
+  skipped r e = record { refuses = now ∙ sym then; reads = reads; goes = turn_refused _ m now ∙ sym (turn_refused _ m then) }
+    where
+      made_now : rests_on_code (reply k.turn m.pc) ≡ true → k.turn.made ≡ hs
+      made_now y = current.refused r e (sym (ap rests_on_code e) ∙ y)
+
+      now : refused k.turn.limit m.pc hs (length k.turn.output) ≡ true
+      now =
+          refused_too m.pc k.turn.limit k.turn.made k.turn.helper16 k.turn.helper_mem (length k.turn.output) r e hs made_now
+          (run_halfwords k.now m.pc k.reach)
+
+      then : is_refused k.turn m ≡ true
+      then =
+          refused_too m.pc k.turn.limit k.turn.made k.turn.helper16 k.turn.helper_mem (length k.turn.output) r e
+          (run_at k.turn.code m.pc k.turn.reach) un (run_halfwords k.turn.code m.pc k.turn.reach)
+
+      reads : rests_on_code (reply k.turn m.pc) ≡ true
+          → read_turn (feed_now k (rejected m.pc r)) m ≡ read_turn (feed k.turn (rejected m.pc r)) m
+      reads y =
+          let same : hs ≡ run_at k.turn.code m.pc k.turn.reach = sym (made_now y) ∙ un y in
+          rw same refl
 
   alike : {ev : Event} {pc' : ℕ} {rb rb' : RegisterBytes} → Turned m.pc rb k.turn ev pc' rb' → ReadsAlike k ev m
   alike (skip {r} e) = skipped r e

@@ -2,6 +2,7 @@
 use Rattle.std.proofs.Common.{Bool, ◌&&◌, ◌||◌, cond, false, true, List, [], ◌++◌, ◌∷◌, ◌∙◌, ◌≡◌, ap, refl, subst, sym, ◌*◌, ◌+◌, ◌-◌, ◌<◌}
 use Rattle.std.specs.Prelude.{Option, None, Some}
 use Rattle.std.proofs.Common.{◌^◌, ◌≤◌, min, suc, ℕ, arith, eqb, leb, ltb, length}
+use Rattle.agreement.specs.Riscv.Code.{run_at}
 use Rattle.agreement.specs.Common.{Helper, Helper.for_access, Helper.for_halfword, most_steps}
 use Rattle.agreement.specs.Riscv.Run.{Feed, GuestState, Left, Read, Registers, Stop.called, Stop.plain, read_turn, reading, turn}
 use Rattle.agreement.specs.Translation.Emit.{add_count, closing, opening, passes}
@@ -14,7 +15,7 @@ use Rattle.agreement.specs.Statement.Agreement.{left_by, own}
 use Rattle.agreement.specs.Statement.Machine.{By, Call, RegisterBytes, Steps, Turn, Visit, Went, bytes_after, enter, plus_rdx, reply}
 use Rattle.agreement.specs.Statement.Machine.Event.{visited}
 use Rattle.agreement.specs.Statement.Machine.Went.{helped, plainly}
-use Rattle.agreement.specs.Statement.Premises.{Enterable, Keeps, Layout, Typed, Unchanged}
+use Rattle.agreement.specs.Statement.Premises.{Enterable, Keeps, Layout, Typed}
 use Rattle.agreement.specs.X86.Decode.{Bytes}
 use Rattle.agreement.specs.X86.Encode.{bytes, encode}
 use Rattle.agreement.specs.X86.Form.{Alu.add, Instr, Instr.alu_imm32, Instr.call_rax, Instr.ret, Ok, RAX, RDI, RDX, RSP}
@@ -199,7 +200,7 @@ pub record Done (t : Turn) (m : GuestState) (rb : RegisterBytes) : Type 0 where
   pub x0 : m2.registers 0 ≡ 0
   pub low : m2.pc < 2 ^ 64
 
-module _ (t : Turn) (m : GuestState) (rb : RegisterBytes) (ty : Typed t) (un : Unchanged t m.pc) (low : m.pc < 2 ^ 64)
+module _ (t : Turn) (m : GuestState) (rb : RegisterBytes) (ty : Typed t) (un : t.made ≡ run_at t.code m.pc t.reach) (low : m.pc < 2 ^ 64)
     (sl : (r : ℕ) → r < 32 → read 8 rb (8 * r) ≡ m.registers r) (zero0 : m.registers 0 ≡ 0) where
   abbrev p : Walked
   p = walked m.pc t.limit t.made

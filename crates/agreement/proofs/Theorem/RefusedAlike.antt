@@ -1,20 +1,22 @@
 -- The table of replies and the manual's own reading of it refuse the same turns; bounds of a walk.
-use Rattle.std.proofs.Common.{Bool, cond, false, true, List, [], ◌∷◌, ◌∙◌, ◌≡◌, refl, subst, sym, ◌%◌, ◌<◌, ◌^◌, ◌≤◌, suc, zero, ℕ, arith, drop}
+use Rattle.std.proofs.Common.{Bool, ◌||◌, ap, cond, false, true, List, [], ◌∷◌, ◌∙◌, ◌≡◌, refl, subst, sym, ◌%◌, ◌<◌, ◌^◌, ◌≤◌, suc, zero, ℕ, arith, drop}
 use Rattle.std.specs.Prelude.{Option, None, Some}
 use Rattle.std.proofs.Common.{bit_and, eqb, ltb}
 use Rattle.agreement.specs.Common.{greatest}
+use Rattle.agreement.specs.Riscv.Code.{run_at}
 use Rattle.agreement.specs.Riscv.Fields.{plus}
 use Rattle.agreement.specs.Riscv.Instruction.{Instruction}
 use Rattle.agreement.specs.Riscv.Instruction.Instruction.{AUIPC, FENCE, FENCE_I, JAL, JALR, LUI, access, branch, op, op_imm, other, unmodelled}
 use Rattle.agreement.specs.Riscv.Run.{chosen, first_refused, is_long, is_not_taken, refused, taken, word_of, in_line}
 use Rattle.agreement.specs.Translation.Kind.{kind}
 use Rattle.agreement.specs.Translation.Replies.{Block, Refusal, Reply, block_of, by_first, first, first_word, translate, walked}
+use Rattle.agreement.specs.Translation.Replies.{First}
 use Rattle.agreement.specs.Translation.Replies.First.{begins, lacks, untaken}
 use Rattle.agreement.specs.Translation.Replies.Refusal.{limit_zero, missing, not_taken, odd_start, output_short}
 use Rattle.agreement.specs.Translation.Replies.Reply.{block, refusal}
 use Rattle.agreement.specs.Translation.Walk.{End, End.calls, End.goes_on, End.jumped, Walked, emit, walk, emit_word, emit_halfword}
 use Rattle.agreement.specs.Statement.Machine.{Turn}
-use Rattle.agreement.specs.Statement.Premises.{Unchanged}
+use Rattle.agreement.specs.Statement.Premises.{rests_on_code}
 use Rattle.agreement.specs.Laws.{Halfwords}
 use Rattle.agreement.proofs.Laws.Runs.{run_halfwords, halfwords_front, halfwords_drop, halfwords_tail}
 use Rattle.agreement.proofs.Laws.Fields.{long_is, word_of_is}
@@ -66,32 +68,85 @@ first_is (h ∷ u ∷ hs) l = go (is_long h) refl (chosen (taken (word_of h u)))
 
 -- 2. The reply
 
-pub data Replied (start limit : ℕ) (hs : List ℕ) (helper16 helper_mem room : ℕ) : Type 0 where
-  out : (r : Refusal) → translate start limit hs helper16 helper_mem room ≡ refusal r → refused limit start hs room ≡ true
-      → Replied start limit hs helper16 helper_mem room
+-- a run's first instruction against an output that is long enough, and that is not
+room_rests : (f : First) (room : ℕ) (b : Block) → ltb room greatest ≡ false → rests_on_code (by_first f room b) ≡ true
+unfolding by_first
+room_rests begins room b e = rw (e, by_first) refl
+room_rests (lacks i) room b e = refl
+room_rests (untaken w) room b e = refl
+
+record Short (f : First) (room : ℕ) (b : Block) : Type 0 where
+  r : Refusal
+  is : by_first f room b ≡ refusal r
+
+no_room : (f : First) (room : ℕ) (b : Block) → ltb room greatest ≡ true → Short f room b
+unfolding by_first
+no_room begins room b e = record { r = output_short; is = rw (e, by_first) refl }
+no_room (lacks i) room b e = record { r = missing i; is = refl }
+no_room (untaken w) room b e = record { r = not_taken w; is = refl }
+
+or_true : (a : Bool) → a || true ≡ true
+or_true true = refl
+or_true false = refl
+
+-- what the reply to the run hs is, and whether the manual's run of `now` refuses the turn
+pub data Replied (start limit : ℕ) (hs : List ℕ) (helper16 helper_mem room : ℕ) (now : List ℕ) : Type 0 where
+  out : (r : Refusal) → translate start limit hs helper16 helper_mem room ≡ refusal r → refused limit start now room ≡ true
+      → Replied start limit hs helper16 helper_mem room now
   came : translate start limit hs helper16 helper_mem room ≡ block (block_of helper16 helper_mem (walked start limit hs))
-      → refused limit start hs room ≡ false → Replied start limit hs helper16 helper_mem room
+      → refused limit start now room ≡ false → Replied start limit hs helper16 helper_mem room now
 
 -- a block is made of halfwords, since it is made from a run
-pub made_halfwords : (t : Turn) (pc : ℕ) → Unchanged t pc → Halfwords t.made
+pub made_halfwords : (t : Turn) (pc : ℕ) → t.made ≡ run_at t.code pc t.reach → Halfwords t.made
 made_halfwords t pc un = subst Halfwords (sym un) (run_halfwords t.code pc t.reach)
 
 module _ (start limit : ℕ) (hs : List ℕ) (helper16 helper_mem room : ℕ) where
-  pub replied : Halfwords hs → Replied start limit hs helper16 helper_mem room
-  replied l = go (eqb limit 0) (eqb (start % 2) 1) (ltb room greatest) refl refl refl (first_is hs l)
+  abbrev Rests : Type 0
+  Rests = rests_on_code (translate start limit hs helper16 helper_mem room) ≡ true
+
+  pub replied : (now : List ℕ) → (Rests → hs ≡ now) → Halfwords now → Replied start limit hs helper16 helper_mem room now
+  replied now un l = go (eqb limit 0) (eqb (start % 2) 1) (ltb room greatest) refl refl refl
     where
-      go : (a b c : Bool) → eqb limit 0 ≡ a → eqb (start % 2) 1 ≡ b → ltb room greatest ≡ c → FirstIs hs
-          → Replied start limit hs helper16 helper_mem room
-      go true b c p q r f = out limit_zero (unfold translate in rw (p, translate)) (unfold refused in rw p)
-      go false true c p q r f = out (odd_start start) (unfold translate in rw (p, translate) (rw q)) (unfold refused in rw (p, q))
-      go false false c p q r (lacks_first i e h) =
-          out (missing i) (unfold translate by_first in rw (p, translate) (rw q (rw e))) (unfold refused in rw (p, q, h))
-      go false false c p q r (untaken_first w e h) =
-          out (not_taken w) (unfold translate by_first in rw (p, translate) (rw q (rw e))) (unfold refused in rw (p, q, h))
-      go false false true p q r (taken-first e h) =
-          out output_short (unfold translate by_first in rw (p, translate) (rw q (rw e (rw (r, by_first))))) (unfold refused in rw (p, q, h, r))
-      go false false false p q r (taken-first e h) =
-          came (unfold translate by_first in rw (p, translate) (rw q (rw e (rw (r, by_first))))) (unfold refused in rw (p, q, h, r))
+      by : eqb limit 0 ≡ false → eqb (start % 2) 1 ≡ false
+          → translate start limit hs helper16 helper_mem room ≡ by_first (first hs) room (block_of helper16 helper_mem (walked start limit hs))
+      by p q = unfold translate in rw (p, translate) (rw q refl)
+
+      there : eqb limit 0 ≡ false → eqb (start % 2) 1 ≡ false → ltb room greatest ≡ false → hs ≡ now
+      there p q r = un (ap rests_on_code (by p q) ∙ room_rests (first hs) room _ r)
+
+      enough : eqb limit 0 ≡ false → eqb (start % 2) 1 ≡ false → ltb room greatest ≡ false → FirstIs hs
+          → Replied start limit hs helper16 helper_mem room hs
+      enough p q r (lacks_first i e h) =
+          out (missing i) (by p q ∙ (unfold by_first in rw e refl)) (unfold refused in rw (p, q, h))
+      enough p q r (untaken_first w e h) =
+          out (not_taken w) (by p q ∙ (unfold by_first in rw e refl)) (unfold refused in rw (p, q, h))
+      enough p q r (taken-first e h) =
+          came (by p q ∙ (unfold by_first in rw e (rw (r, by_first)))) (unfold refused in rw (p, q, h, r))
+
+      go : (a b c : Bool) → eqb limit 0 ≡ a → eqb (start % 2) 1 ≡ b → ltb room greatest ≡ c
+          → Replied start limit hs helper16 helper_mem room now
+      go true b c p q r = out limit_zero (unfold translate in rw (p, translate)) (unfold refused in rw p)
+      go false true c p q r = out (odd_start start) (unfold translate in rw (p, translate) (rw q)) (unfold refused in rw (p, q))
+      go false false true p q r =
+          let s = no_room (first hs) room (block_of helper16 helper_mem (walked start limit hs)) r in
+          out s.r (by p q ∙ s.is) (unfold refused in rw (p, q, r) (or_true (first_refused now)))
+      go false false false p q r =
+          let e : hs ≡ now = there p q r in
+          subst (λ (x : List ℕ). Replied start limit hs helper16 helper_mem room x) e
+          (enough p q r (first_is hs (subst Halfwords (sym e) l)))
+
+  -- where a turn was refused, the manual's run refuses it
+  pub refused_too : (r : Refusal) → translate start limit hs helper16 helper_mem room ≡ refusal r
+      → (now : List ℕ) → (Rests → hs ≡ now) → Halfwords now → refused limit start now room ≡ true
+  refused_too r e now un l = go (replied now un l)
+    where
+      go : Replied start limit hs helper16 helper_mem room now → refused limit start now room ≡ true
+      go (out s f z) = z
+      go (came f z) = absurd (
+          let x : ◌≡◌ {A = Reply} (refusal r) (block (block_of helper16 helper_mem (walked start limit hs))) = sym e ∙ f in
+          let z : ◌≡◌ {A = ℕ} 0 1 = cc in
+          omega arith
+          )
 
   -- what is known of a block that was the reply
   pub record IsWalk (b : Block) : Type 0 where
@@ -99,9 +154,9 @@ module _ (start limit : ℕ) (hs : List ℕ) (helper16 helper_mem room : ℕ) wh
     pub accepted : refused limit start hs room ≡ false
 
   pub is_walk : (b : Block) → Halfwords hs → translate start limit hs helper16 helper_mem room ≡ block b → IsWalk b
-  is_walk b l e = go (replied l)
+  is_walk b l e = go (replied hs (λ x. refl) l)
     where
-      go : Replied start limit hs helper16 helper_mem room → IsWalk b
+      go : Replied start limit hs helper16 helper_mem room hs → IsWalk b
       go (out r f z) = absurd (let x : ◌≡◌ {A = Reply} (refusal r) (block b) = sym f ∙ e in let z : ◌≡◌ {A = ℕ} 0 1 = cc in omega arith)
       go (came f z) = record { is = let x : ◌≡◌ {A = Reply} (block b) (block (block_of helper16 helper_mem (walked start limit hs))) = sym e ∙ f in cc; accepted = z }
 

@@ -1,5 +1,5 @@
 -- One turn, refused or entered, leads where the manual's run goes.
-use Rattle.std.proofs.Common.{true, List, ◌∷◌, ◌≡◌, refl, ◌*◌, ◌<◌, ◌^◌, ℕ, length}
+use Rattle.std.proofs.Common.{true, ap, List, ◌∷◌, ◌≡◌, refl, ◌*◌, ◌<◌, ◌^◌, ℕ, length}
 use Rattle.std.specs.Prelude.{None}
 use Rattle.agreement.specs.Riscv.Run.{GuestState, turn}
 use Rattle.agreement.specs.Translation.Replies.{Block, Refusal, Reply.block, Reply.refusal}
@@ -7,10 +7,12 @@ use Rattle.agreement.specs.Statement.Agreement.{At, feed, feed_of, is_refused, l
 use Rattle.agreement.specs.Statement.Machine.{Event, RegisterBytes, Turn, Turned, bytes_after, reply, since}
 use Rattle.agreement.specs.Statement.Machine.Event.{rejected, visited}
 use Rattle.agreement.specs.Statement.Machine.Turned.{skip, visit}
-use Rattle.agreement.specs.Statement.Premises.{Enterable, Typed, Unchanged}
+use Rattle.agreement.specs.Statement.Premises.{Enterable, Typed, Unchanged, rests_on_code}
 use Rattle.agreement.specs.X86.Memory.{read}
 use Rattle.agreement.proofs.Theorem.ManualRun.{turn_refused}
-use Rattle.agreement.proofs.Theorem.RefusedAlike.{Replied, Replied.came, Replied.out, made_halfwords, replied}
+use Rattle.agreement.proofs.Theorem.RefusedAlike.{Replied, Replied.came, Replied.out, replied}
+use Rattle.agreement.proofs.Laws.Runs.{run_halfwords}
+use Rattle.agreement.specs.Riscv.Code.{run_at}
 use Rattle.agreement.proofs.Theorem.OneTurn.{Done, entered_done}
 
 -- the slots of the register bytes are the registers of the manual's state
@@ -68,8 +70,9 @@ entered t m rb d = record {
 pub led : (t : Turn) (m : GuestState) (rb : RegisterBytes) → Typed t → Unchanged t m.pc
     → ((b : Block) → reply t m.pc ≡ block b → Enterable t b rb)
     → m.pc < 2 ^ 64 → SlotsAre rb m → m.registers 0 ≡ 0 → Led t m rb
-led t m rb ty un en low sl z = go (replied m.pc t.limit t.made t.helper16 t.helper_mem (length t.output) (made_halfwords t m.pc un))
+led t m rb ty un en low sl z =
+    go (replied m.pc t.limit t.made t.helper16 t.helper_mem (length t.output) (run_at t.code m.pc t.reach) un (run_halfwords t.code m.pc t.reach))
   where
-    go : Replied m.pc t.limit t.made t.helper16 t.helper_mem (length t.output) → Led t m rb
-    go (out r e f) = skipped t m rb r e (rw un at f) low sl z
-    go (came e f) = entered t m rb (entered_done t m rb ty un low sl z e (rw un at f) (en _ e))
+    go : Replied m.pc t.limit t.made t.helper16 t.helper_mem (length t.output) (run_at t.code m.pc t.reach) → Led t m rb
+    go (out r e f) = skipped t m rb r e f low sl z
+    go (came e f) = entered t m rb (entered_done t m rb ty (un (ap rests_on_code e)) low sl z e f (en _ e))

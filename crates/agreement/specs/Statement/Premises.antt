@@ -3,12 +3,13 @@
 -- bytes that the history has there, and of the helper in the state in which the block's own CALL enters it.
 -- The call of a helper meets no fault: CALL fails in this model on its push alone, and the helper is a function. That the
 -- return address is canonical, as a RET asks on the processor, is not modelled.
-use Rattle.std.specs.Prelude.{◌≡◌, true, List, [], ◌∷◌, ◌≢◌, ℕ, ◌+◌, ◌-◌, ◌%◌, ◌^◌, ◌≤◌, ◌<◌, length}
+use Rattle.std.specs.Prelude.{◌≡◌, Bool, false, true, List, [], ◌∷◌, ◌≢◌, ℕ, ◌+◌, ◌-◌, ◌%◌, ◌^◌, ◌≤◌, ◌<◌, length}
 use Rattle.agreement.specs.Riscv.Code.{run_at}
 use Rattle.agreement.specs.X86.Memory.{at, read}
 use Rattle.agreement.specs.X86.Form.{RAX, RDX, RBX, RSP, RBP, R12, R13, R14, R15, Instr.call_rax}
 use Rattle.agreement.specs.X86.State.{State}
-use Rattle.agreement.specs.Translation.Replies.{Block, Reply.block}
+use Rattle.agreement.specs.Translation.Replies.{Block, Refusal.limit_zero, Refusal.odd_start, Refusal.missing, Refusal.not_taken, Refusal.output_short}
+use Rattle.agreement.specs.Translation.Replies.{Reply, Reply.block, Reply.refusal}
 use Rattle.agreement.specs.Statement.Machine.{RegisterBytes, Turn, enter, Steps, By, Event, reply, Turned}
 
 -- n bytes from a and m bytes from c have none in common
@@ -57,10 +58,21 @@ pub record Typed (t : Turn) : Type 0 where
   pub helper_mem : t.helper_mem < 2 ^ 64
   pub others : (k : ℕ) → k < 16 → t.others k < 2 ^ 64
 
--- demand 3's "code unchanged since translation": the run that the block was made from, whenever that was, is the run that the code
--- has now. This is all that is asked of the code: it may change from turn to turn, and in each turn everywhere but in this run
+-- whether a reply rests on the halfwords: a block does, and a refusal because the first word is not there or not taken. For a limit of 0,
+-- an odd start and an output that is too short a turn is refused whatever the code is
+abbrev pub rests_on_code : Reply → Bool
+rests_on_code (block b) = true
+rests_on_code (refusal limit_zero) = false
+rests_on_code (refusal (odd_start start)) = false
+rests_on_code (refusal (missing index)) = true
+rests_on_code (refusal (not_taken word)) = true
+rests_on_code (refusal output_short) = false
+
+-- demand 3's "code unchanged since translation", of a reply that rests on it: the run that it was made from, whenever that was, is the
+-- run that the code has now. This is all that is asked of the code: it may change from turn to turn, and in each turn everywhere but in
+-- this run
 abbrev pub Unchanged : Turn → ℕ → Type 0
-Unchanged t pc = t.made ≡ run_at t.code pc t.reach
+Unchanged t pc = rests_on_code (reply t pc) ≡ true → t.made ≡ run_at t.code pc t.reach
 
 -- the block b is entered with the register bytes rb; its CALL, if it comes to one, enters the helper in a
 pub record Enterable (t : Turn) (b : Block) (rb : RegisterBytes) : Type 0 where
