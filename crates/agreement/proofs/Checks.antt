@@ -1,4 +1,3 @@
-pub mod Cases
 pub mod CasesHold
 pub mod Expansions
 pub mod Vectors

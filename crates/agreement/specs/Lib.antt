@@ -4,3 +4,4 @@ pub mod X86
 pub mod Translation
 pub mod Statement
 pub mod Laws
+pub mod Cases

@@ -1,6 +1,7 @@
 // Blocks: where they are left, how long they are and how much of the guest's code they span.
 
 ghost use Rattle.agreement.specs.Laws.{OutputsBlock, Lengths, BothReached, Spans};
+ghost use Rattle.agreement.specs.Cases.{CasesHold};
 
 // A block's reply leaves the block at the output's front, and the rest of the output as before.
 #[tactic(auto, using(crate::proofs::Laws::Output::outputs_block))]
@@ -18,6 +19,12 @@ pub fn lengths()
 #[tactic(auto, using(crate::proofs::Checks::Reached::both_reached))]
 pub fn both_reached()
     ensures { BothReached }
+{}
+
+// The cases that were asked to be proved of the definitions hold: immediates, whole replies with every byte of the block, and placings.
+#[tactic(auto, using(crate::proofs::Checks::CasesHold::cases_hold))]
+pub fn cases_hold()
+    ensures { CasesHold }
 {}
 
 // A block spans from 2 to 256 bytes, an even number of them, 2 to 4 for each instruction that it counts, and none that its run did not have.

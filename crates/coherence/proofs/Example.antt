@@ -2,7 +2,7 @@
 use Rattle.std.proofs.Common.{◌≡◌, refl, sym, ap, ◌∙◌, Bool, true, false, cond, List, [], ◌∷◌, ◌++◌, ℕ, arith, eqb, eqb-true, length}
 use Rattle.std.specs.Prelude.{Some}
 use Rattle.agreement.specs.Riscv.Code.{run_at}
-use Rattle.agreement.proofs.Checks.Cases.{words}
+use Rattle.agreement.specs.Cases.{words}
 use Rattle.agreement.proofs.Checks.CasesHold.{translations}
 use Rattle.agreement.proofs.Laws.Runs.{held}
 use Rattle.entry.specs.Index.{blank, touches}

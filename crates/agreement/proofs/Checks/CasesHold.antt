@@ -9,7 +9,7 @@ use Rattle.agreement.specs.Translation.Emit.{leftover}
 use Rattle.agreement.specs.Translation.Walk.{emit, walk, ending, instrs, counted}
 use Rattle.agreement.specs.Translation.Replies.{rules, numbered, first_word, first, by_first, translate}
 use Rattle.agreement.specs.Translation.Place.{placing_numbered, place}
-use Rattle.agreement.proofs.Checks.Cases.{by_manual, by_rust, equal, code_of, is_reply, holds, every, dump, framed, copies, words, cases}
+use Rattle.agreement.specs.Cases.{by_manual, by_rust, equal, code_of, is_reply, holds, every, dump, framed, copies, words, cases, CasesHold}
 
 -- whoever unfolds these unfolds what they name: the immediates of both sides; a translation; how a case is written and tested
 unfoldable pub immediates : Unit {0}
@@ -30,8 +30,8 @@ unfoldable pub tests : Unit {0}
 unfolding by_manual by_rust equal code_of is_reply dump framed copies words
 tests = tt
 
-pub cases_hold : every cases ≡ true
-unfolding immediates translations tests placing_numbered place holds every cases
+pub cases_hold : CasesHold
+unfolding immediates translations tests placing_numbered place holds every cases CasesHold
 cases_hold = refl
 
 -- document 02, Q-7: the number that callers compare

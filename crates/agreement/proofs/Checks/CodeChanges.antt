@@ -10,7 +10,7 @@ use Rattle.agreement.specs.Statement.Machine.{Event, Turn, since}
 use Rattle.agreement.specs.X86.Form.{RAX, RDX}
 use Rattle.agreement.specs.X86.Memory.{put, read, write}
 use Rattle.agreement.specs.X86.State.{State}
-use Rattle.agreement.proofs.Checks.Cases.{words}
+use Rattle.agreement.specs.Cases.{words}
 use Rattle.agreement.proofs.Checks.Example.{leaves, turn_of, zeros}
 use Rattle.agreement.proofs.Checks.ExampleStates.{reads_a_turn}
 use Rattle.agreement.proofs.Checks.PremisesMet.{Allowed, applied, turn_of_meets}

@@ -9,7 +9,7 @@ use Rattle.agreement.specs.Statement.Steps.{divides, undivided, unless_dividing}
 use Rattle.agreement.specs.Translation.Replies.{walked}
 use Rattle.agreement.specs.Translation.Walk.{instrs}
 use Rattle.agreement.specs.X86.Memory.{read}
-use Rattle.agreement.proofs.Checks.Cases.{words}
+use Rattle.agreement.specs.Cases.{words}
 use Rattle.agreement.proofs.Checks.CasesHold.{immediates, translations}
 use Rattle.agreement.proofs.Checks.CodeChanges.{Plainly}
 use Rattle.agreement.proofs.Checks.Example.{leaves, turn_of, zeros}

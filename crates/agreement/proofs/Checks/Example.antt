@@ -8,7 +8,7 @@ use Rattle.agreement.specs.X86.Memory.{at, read, write}
 use Rattle.agreement.specs.X86.Form.{RAX, RDX, RSP}
 use Rattle.agreement.specs.X86.State.{Flags, State, Permissions, set}
 use Rattle.agreement.specs.Statement.Machine.{RegisterBytes, Turn}
-use Rattle.agreement.proofs.Checks.Cases.{words}
+use Rattle.agreement.specs.Cases.{words}
 use Rattle.agreement.proofs.Laws.Runs.{held}
 
 -- the n addresses from a

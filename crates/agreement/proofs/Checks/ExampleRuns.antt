@@ -14,7 +14,7 @@ use Rattle.agreement.specs.X86.Form.{RAX, RDX, RSP}
 use Rattle.agreement.specs.X86.Memory.{nth, overlay, put, read, span, write}
 use Rattle.agreement.specs.X86.State.{Permissions, State}
 use Rattle.agreement.specs.X86.Step.{all, cut, did, fetched, next, past, step, steps}
-use Rattle.agreement.proofs.Checks.Cases.{words}
+use Rattle.agreement.specs.Cases.{words}
 use Rattle.agreement.proofs.Checks.CasesHold.{immediates, translations}
 use Rattle.agreement.proofs.Checks.Example.{leaves, plain_turn, range, zeros}
 

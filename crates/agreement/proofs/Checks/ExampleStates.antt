@@ -13,7 +13,7 @@ use Rattle.agreement.specs.Riscv.Immediates as Manual
 use Rattle.agreement.specs.Statement.Agreement.{feed_of, is_refused, start}
 use Rattle.agreement.specs.X86.Memory.{read, write}
 use Rattle.agreement.specs.X86.State.{State}
-use Rattle.agreement.proofs.Checks.Cases.{words}
+use Rattle.agreement.specs.Cases.{words}
 use Rattle.agreement.proofs.Checks.Example.{first_pc, halfword_turn, helper_turn, leaves, odd_turn, plain_turn, refused_turn, zeros}
 use Rattle.agreement.proofs.Host.Memory.{read_other, read-write}
 use Rattle.agreement.proofs.Theorem.Consequences.{after_helper, after_plain, read_as}

@@ -2,7 +2,7 @@
 -- extension of immediates and displacements, the masks of shift counts. The values of products, divisions and jumps are what a
 -- processor gave for the same instruction and operands.
 use Rattle.std.proofs.Common.{Bool, ◌&&◌, cond, false, true, List, [], ◌∷◌, ◌≡◌, refl, ℕ, zero, suc, ◌+◌, ◌/◌, ◌%◌, ◌^◌, eqb}
-use Rattle.agreement.proofs.Checks.Cases.{equal}
+use Rattle.agreement.specs.Cases.{equal}
 use Rattle.agreement.proofs.Checks.Flags.{number, off}
 use Rattle.agreement.specs.X86.Encode.{encode}
 use Rattle.agreement.specs.X86.Execute.{exec}

@@ -13,7 +13,7 @@ use Rattle.agreement.specs.Statement.Machine.{Event, Event.rejected, Event.visit
 use Rattle.agreement.specs.Statement.Premises.{Enterable, Premises, Unchanged, rests_on_code}
 use Rattle.agreement.specs.X86.Memory.{read}
 use Rattle.agreement.specs.X86.State.{State}
-use Rattle.agreement.proofs.Checks.Cases.{words}
+use Rattle.agreement.specs.Cases.{words}
 use Rattle.agreement.proofs.Checks.CasesHold.{translations}
 use Rattle.agreement.proofs.Checks.Example.{leaves, turn_of, zeros}
 use Rattle.agreement.proofs.Checks.ExampleStates.{reads_a_turn}

@@ -2,7 +2,7 @@
 -- the whole run that would hold too.
 use Rattle.std.proofs.Common.{◌≡◌, refl, Bool, true, ◌&&◌, List, [], ◌∷◌, ℕ, take}
 use Rattle.agreement.specs.Translation.Needed.{needed}
-use Rattle.agreement.proofs.Checks.Cases.{equal}
+use Rattle.agreement.specs.Cases.{equal}
 use Rattle.agreement.proofs.Checks.CasesHold.{translations, tests}
 
 -- of at most `limit` instructions the first `number` halfwords are needed

@@ -1,6 +1,6 @@
 -- Placing, and what a refusal leaves: further vectors of the definitions.
 use Rattle.std.proofs.Common.{◌&&◌, true, List, [], ◌∷◌, ◌≡◌, refl, ℕ, eqb}
-use Rattle.agreement.proofs.Checks.Cases.{Case, Case.placing, equal, every, holds}
+use Rattle.agreement.specs.Cases.{Case, Case.placing, equal, every, holds}
 use Rattle.agreement.specs.Translation.Place.{Placing.beyond, Placing.full, mark_after, place, placing_numbered, store_after}
 use Rattle.agreement.specs.Translation.Replies.{Refusal, Reply.refusal, output_after}
 

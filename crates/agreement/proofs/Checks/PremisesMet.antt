@@ -9,7 +9,7 @@ use Rattle.agreement.specs.Statement.Machine.{Turn, reply}
 use Rattle.agreement.specs.Statement.Premises.{Keeps, Layout}
 use Rattle.agreement.specs.X86.Memory.{Memory, read, write}
 use Rattle.agreement.specs.X86.State.{State}
-use Rattle.agreement.proofs.Checks.Cases.{words}
+use Rattle.agreement.specs.Cases.{words}
 use Rattle.agreement.proofs.Checks.Example.{first_pc, five_turns, halfword_turn, helper_run, helper_turn, leaves, odd_turn, plain_run}
 use Rattle.agreement.proofs.Checks.Example.{plain_turn, range, refused_turn, three_turns, turn_of, zeros}
 use Rattle.agreement.proofs.Checks.ExampleStates.{after_three, fifth_refused, first_refused_lem, fourth_calls, fourth_taken, m0, m2, m3}

@@ -1,6 +1,6 @@
 -- Blocks of 67 and of 4,099 bytes: a fence, and sixty-four times DIVW, which has 63 bytes (67 + 64 * 63).
 use Rattle.std.proofs.Common.{[], ◌∷◌, refl}
-use Rattle.agreement.proofs.Checks.Cases.{copies, words}
+use Rattle.agreement.specs.Cases.{copies, words}
 use Rattle.agreement.specs.Laws.{BothReached, Reaches}
 use Rattle.agreement.specs.Translation.Replies.{block_of, walked}
 use Rattle.agreement.proofs.Checks.CasesHold.{translations}

@@ -10,7 +10,7 @@ use Rattle.agreement.specs.Statement.Kept.{AgreesNow, AgreementOfKept, Current, 
 use Rattle.agreement.specs.Statement.Machine.{Event, Event.rejected, History.end, History.then, Turn, Turned.skip, reply}
 use Rattle.agreement.specs.Statement.Premises.{rests_on_code}
 use Rattle.agreement.specs.X86.Memory.{read}
-use Rattle.agreement.proofs.Checks.Cases.{words}
+use Rattle.agreement.specs.Cases.{words}
 use Rattle.agreement.proofs.Checks.CasesHold.{translations}
 use Rattle.agreement.proofs.Checks.Example.{clear, permissions, zeros}
 use Rattle.agreement.proofs.Checks.ExampleStates.{reads_a_turn}

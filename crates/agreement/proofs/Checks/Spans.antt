@@ -1,7 +1,7 @@
 -- Spans of blocks, worked out by hand from document 02, Q-5, and its readings: the counted instructions' bytes.
 use Rattle.std.proofs.Common.{◌≡◌, refl, Bool, true, false, ◌&&◌, List, [], ◌∷◌, ◌++◌, ℕ, eqb}
 use Rattle.agreement.specs.Translation.Replies.{Reply, Reply.block, Reply.refusal}
-use Rattle.agreement.proofs.Checks.Cases.{copies, reply, words}
+use Rattle.agreement.specs.Cases.{copies, reply, words}
 use Rattle.agreement.proofs.Checks.CasesHold.{translations, tests}
 
 -- the span of a block made from so many instructions at most; a refusal has none

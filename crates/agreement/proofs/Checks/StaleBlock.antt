@@ -13,7 +13,7 @@ use Rattle.agreement.specs.Statement.Premises.{Unchanged}
 use Rattle.agreement.specs.X86.Form.{Instr}
 use Rattle.agreement.specs.X86.Memory.{read}
 use Rattle.agreement.specs.X86.State.{State}
-use Rattle.agreement.proofs.Checks.Cases.{words}
+use Rattle.agreement.specs.Cases.{words}
 use Rattle.agreement.proofs.Checks.CasesHold.{translations}
 use Rattle.agreement.proofs.Checks.Example.{zeros}
 use Rattle.agreement.proofs.Checks.ExampleStates.{reads_a_turn}

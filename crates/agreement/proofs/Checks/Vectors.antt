@@ -3,9 +3,9 @@
 -- opcode with funct3 1 to 7 is not taken (Q-6).
 use Rattle.std.proofs.Common.{◌≡◌, refl, Bool, true, ◌&&◌, List, [], ◌∷◌, ◌++◌, ℕ, ◌-◌, ◌^◌, length}
 use Rattle.agreement.specs.Translation.Replies.{Reply, translate}
-use Rattle.agreement.proofs.Checks.Cases.{is_reply, holds, dump, framed, copies, words}
-use Rattle.agreement.proofs.Checks.Cases.Format.{I, S, B, U, J}
-use Rattle.agreement.proofs.Checks.Cases.Case.{immediate}
+use Rattle.agreement.specs.Cases.{is_reply, holds, dump, framed, copies, words}
+use Rattle.agreement.specs.Cases.Format.{I, S, B, U, J}
+use Rattle.agreement.specs.Cases.Case.{immediate}
 use Rattle.agreement.proofs.Checks.CasesHold.{immediates, translations, tests}
 
 -- a word translated alone at 0x80000000, with its n bytes: it goes on, it ends the block, it ends in a helper's call; the same of a

@@ -12,7 +12,7 @@ use Rattle.agreement.specs.X86.Form.{R12, R13, R14, R15, R8, RAX, RBP, RBX, RCX,
 use Rattle.agreement.specs.X86.Memory.{at, nth, overlay, read}
 use Rattle.agreement.specs.X86.State.{State}
 use Rattle.agreement.specs.X86.Step.{all}
-use Rattle.agreement.proofs.Checks.Cases.{words}
+use Rattle.agreement.specs.Cases.{words}
 use Rattle.agreement.proofs.Checks.CasesHold.{immediates, translations}
 use Rattle.agreement.proofs.Checks.Example.{halfword_turn, helper_turn, leaves, plain_turn, turn_of}
 use Rattle.agreement.proofs.Checks.ExampleStates.{after_three, fourth_reads, m0, m2, reads_a_turn, second_x1, x1_is}

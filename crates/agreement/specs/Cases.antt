@@ -1,7 +1,7 @@
 -- The cases that document 01 marks P, as document 02 changes them, those and no others: one list, and one Boolean test over it.
 -- The case stands above each. The bytes are those that the original Rust wrote, to the run up to FENCE.I and up to a reserved JALR;
 -- those of DIVW, which the Rust does not take, are an assembler's. `_` parts host instructions.
-use Rattle.std.proofs.Common.{Bool, true, false, ◌&&◌, List, [], ◌∷◌, ◌++◌, ℕ, zero, suc, ◌-◌, ◌/◌, ◌%◌, ◌^◌, eqb}
+use Rattle.std.specs.Prelude.{◌≡◌, Bool, true, false, ◌&&◌, List, [], ◌∷◌, ◌++◌, ℕ, zero, suc, ◌-◌, ◌/◌, ◌%◌, ◌^◌, eqb}
 use Rattle.agreement.specs.Riscv.Immediates as Manual
 use Rattle.agreement.specs.Translation.Decode32 as Decode32
 use Rattle.agreement.specs.Translation.Replies.{Reply, Reply.block, Reply.refusal, numbered, translate}
@@ -154,3 +154,8 @@ cases =
     -- used 5, code 67, store 75: offset 8, used 75. Store 74: number 7
     ∷ placing 5 67 75 0 (8 ∷ 75 ∷ [])
     ∷ placing 5 67 74 7 [] ∷ []
+
+-- 5. The statement
+
+unfoldable pub CasesHold : Type 0
+CasesHold = every cases ≡ true
