@@ -23,3 +23,4 @@ pub mod StaleBlock
 pub mod Spans
 pub mod KeptBlocks
 pub mod RefusedTurns
+pub mod AtTheBounds
