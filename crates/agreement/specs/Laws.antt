@@ -219,3 +219,18 @@ pub record SpansOf (hs : List ℕ) (b : Block) : Type 0 where
 unfoldable pub Spans : Type 0
 Spans = (start limit : ℕ) (hs : List ℕ) (helper16 helper_mem room : ℕ) (b : Block) → Halfwords hs
     → translate start limit hs helper16 helper_mem room ≡ block b → SpansOf hs b
+
+-- both ends are reached, by a run of which nothing is left over: one halfword, and 64 words. So are the 2 and the 4 bytes for an instruction
+
+pub record ReachesSpan (n each : ℕ) : Type 0 where
+  pub start : ℕ
+  pub limit : ℕ
+  pub halfwords : List ℕ
+  pub result : Block
+  pub reply : translate start limit halfwords 0 0 4099 ≡ block result
+  pub spans : result.span ≡ n
+  pub for_each : result.span ≡ each * result.count
+  pub whole : result.span ≡ 2 * length halfwords
+
+unfoldable pub SpansReached : Type 0
+SpansReached = ReachesSpan 2 2 × ReachesSpan 256 4

@@ -1,6 +1,6 @@
 // Blocks: where they are left, how long they are and how much of the guest's code they span.
 
-ghost use Rattle.agreement.specs.Laws.{OutputsBlock, Lengths, BothReached, Spans};
+ghost use Rattle.agreement.specs.Laws.{OutputsBlock, Lengths, BothReached, Spans, SpansReached};
 ghost use Rattle.agreement.specs.Cases.{CasesHold};
 
 // A block's reply leaves the block at the output's front, and the rest of the output as before.
@@ -31,4 +31,10 @@ pub fn cases_hold()
 #[tactic(auto, using(crate::proofs::Theorem::Kept::spans))]
 pub fn spans()
     ensures { Spans }
+{}
+
+// A block that spans 2 bytes for one instruction and one that spans 256 for 64 are replies, each spanning its whole run.
+#[tactic(auto, using(crate::proofs::Checks::Reached::spans_reached))]
+pub fn spans_reached()
+    ensures { SpansReached }
 {}
