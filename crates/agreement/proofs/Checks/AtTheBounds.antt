@@ -1,3 +1,4 @@
 pub mod Numbers
 pub mod Runs
 pub mod Blocks
+pub mod HostCode
