@@ -2,3 +2,4 @@ pub mod Numbers
 pub mod Runs
 pub mod Blocks
 pub mod HostCode
+pub mod GuestWords
