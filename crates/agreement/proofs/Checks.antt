@@ -24,3 +24,4 @@ pub mod Spans
 pub mod KeptBlocks
 pub mod RefusedTurns
 pub mod AtTheBounds
+pub mod WrongCases
