@@ -355,4 +355,5 @@ preserved_after es (empties ∷ earlier) h = preserved_empty (after es earlier) 
 preserved_after es (drops a n ∷ earlier) h = preserved_drop (after es earlier) (events es earlier) (preserved_after es earlier h) a n
 
 pub history : History
+unfolding History
 history es operations h = shows_last (after es operations) (events es operations) (preserved_after es operations h)

@@ -38,6 +38,7 @@ module _ (es : List Entry) (k : Key) where
   full_taken h n = ap (λ (t : Bool). list_any (cond t (holds k) free) es) (none_found (holds k) es h) ∙ n
 
 pub refuses_when_full : RefusesWhenFull
+unfolding RefusesWhenFull
 refuses_when_full es k = record {
   only = λ h. none_taken es k (not_any _ (sym (refused_is es k) ∙ eq-eqb (insert_answer es k).0 8 h));
   always = λ h n. ap (λ (t : Bool). cond {A = ℕ × List ℕ} t (0, position_or_len (taken es k) es ∷ []) (8, [])) (full_taken es k h n);

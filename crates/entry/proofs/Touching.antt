@@ -60,6 +60,7 @@ shared pc span a n h =
     record { i = f.number; j = g.number; spanned = f.below; written = g.below; same = eqb-true _ _ g.passes }
 
 pub empty_touches_nothing : EmptyTouchesNothing
+unfolding EmptyTouchesNothing
 empty_touches_nothing pc span a n = (
   false_from_ne_true (touches pc span a 0) (λ h. let s = shared pc span a 0 h in omega (arith, s.written)),
   false_from_ne_true (touches pc 0 a n) (λ h. let s = shared pc 0 a n h in omega (arith, s.spanned)),

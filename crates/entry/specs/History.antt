@@ -67,6 +67,6 @@ pub record ShowsLast (es : List Entry) (happened : List Event) : Type 0 where
   pub shows : (k : Key) → find es k ≡ showing k (last happened k)
   pub distinct : Distinct es
 
-abbrev pub History : Type 0
+unfoldable pub History : Type 0
 History = (es : List Entry) (operations : List Operation) → list_any is_in_use es ≡ false
     → ShowsLast (after es operations) (events es operations)

@@ -10,9 +10,9 @@ pub record Refuses (es : List Entry) (k : Key) : Type 0 where
   pub only : (insert_answer es k).0 ≡ 8 → (find es k ≡ None) × (list_any free es ≡ false)
   pub always : find es k ≡ None → list_any free es ≡ false → insert_answer es k ≡ (8, [])
 
-abbrev pub RefusesWhenFull : Type 0
+unfoldable pub RefusesWhenFull : Type 0
 RefusesWhenFull = (es : List Entry) (k : Key) → Refuses es k
 
 -- of any numbers: a write of no bytes touches nothing, and no write touches a block that spans none
-abbrev pub EmptyTouchesNothing : Type 0
+unfoldable pub EmptyTouchesNothing : Type 0
 EmptyTouchesNothing = (pc span a n : ℕ) → (touches pc span a 0 ≡ false) × (touches pc 0 a n ≡ false)

@@ -1,5 +1,9 @@
-// An entry of the index of blocks (document 02, Q-4 and Q-5). What an index does with entries stands in specs/, apart from the code.
+// An entry of the index of blocks. What an index does with entries stands in specs/, apart from the code; the modules promise what holds
+// of it.
 #![tactic(auto)]
+
+pub mod history;
+pub mod laws;
 
 ghost use Rattle.std.specs.Prelude.{◌≡◌};
 ghost use Rattle.entry.specs.Index as Index;

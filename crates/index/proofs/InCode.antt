@@ -1,29 +1,45 @@
--- The history of the code: each call's contract gives what the definition leaves.
-use Rattle.std.proofs.Common.{◌≡◌, sym, ◌∙◌, subst, false, List, ◌∷◌, ℕ}
-use Rattle.std.specs.List.{list_any}
-use Rattle.entry.specs.Index.{is_in_use, insert_answer}
-use Rattle.entry.specs.Index as Index
-use Rattle.entry.specs.History.{Event, outcome}
-use Rattle.index.specs.HistoryInCode.{Leads, Leads.begin, HistoryInCode}
-use Rattle.index.specs.HistoryInCode as Code
+-- The history of the code: each call's contract gives what the definitions say, and a call that gives it can be made.
+use Rattle.std.specs.Prelude.{Result, Ok, Err}
+use Rattle.std.specs.List.{list_any, position_or_len}
+use Rattle.std.proofs.Common.{◌≡◌, refl, ap, subst, Bool, true, false, List, [], ◌∷◌, ℕ}
+use Rattle.entry.specs.Index.{find, insert_answer, insert, taken}
+use Rattle.entry.specs.History.{Event, Operation, Operation.inserts, Operation.empties, Operation.drops, outcome}
+use Rattle.entry.specs.declared.Key.{Key}
 use Rattle.entry.specs.declared.Entry.{Entry}
-use Rattle.entry.proofs.LastShown.{Preserved, preserved_start, preserved_insert, preserved_empty, preserved_drop, shows_last}
+use Rattle.entry.specs.declared.NativeBlock.{NativeBlock}
+use Rattle.index.specs.Answers.{numbered, Inserts}
+use Rattle.index.specs.HistoryInCode.{Does, HistoryInCode, CallsCanBeMade}
+use Rattle.index.proofs.Along.{told_by, left_by, Meets, history_of, reached}
+use Rattle.index.specs.declared.Full.{Full}
 
-preserved_along : (es zs : List Entry) (all : List Event) → list_any is_in_use es ≡ false → Leads es all zs → Preserved zs all
-preserved_along es zs all h begin = preserved_start es h
-preserved_along es zs all h (Code.Leads.insert {happened} {xs} {ys} {k} {b} {r} led call) =
-    subst (λ (l : List Entry). Preserved l all) (sym call.leaves)
-    (subst (λ (a : ℕ × List ℕ). Preserved (Index.insert xs k b) (outcome a k b ∷ happened)) (sym call.answers)
-    (preserved_insert xs happened (preserved_along es xs happened h led) k b))
-preserved_along es zs all h (Code.Leads.empty {happened} {xs} {ys} {mark} led call) =
-    subst (λ (l : List Entry). Preserved l all) (sym call.leaves) (preserved_empty xs happened (preserved_along es xs happened h led))
-preserved_along es zs all h (Code.Leads.drop {happened} {xs} {ys} {address} {n} {r} led call) =
-    subst (λ (l : List Entry). Preserved l all) (sym call.leaves) (preserved_drop xs happened (preserved_along es xs happened h led) address n)
+meets : (o : Operation) (xs : List Entry) (event : Event) (ys : List Entry) → Does o xs event ys → Meets o xs event ys
+meets o xs event ys (Does.insert {k = k} {b = b} call) = record { tells = ap (λ (a : ℕ × List ℕ). outcome a k b) call.answers; leaves = call.leaves }
+meets o xs event ys (Does.empty call) = record { tells = refl; leaves = call.leaves }
+meets o xs event ys (Does.drop call) = record { tells = refl; leaves = call.leaves }
 
 pub history_in_code : HistoryInCode
-history_in_code es xs happened h led =
-    let p = preserved_along es xs happened h led in
-    record {
-      shows = λ k r finds. finds ∙ p.shows k;
-      distinct = (shows_last xs happened p).distinct;
-    }
+unfolding HistoryInCode
+history_in_code = history_of Does meets _ (λ answer. answer) (λ xs k r finds. finds)
+
+-- an insert that answers by the definition
+pub record Inserted (es : List Entry) (k : Key) (b : NativeBlock) : Type 0 where
+  pub r : Result ℕ Full
+  pub call : Inserts es (insert es k b) k b r
+
+pub inserted : (es : List Entry) (k : Key) (b : NativeBlock) → Inserted es k b
+inserted es k b = at (list_any (taken es k) es) refl
+  where
+    at : (t : Bool) → list_any (taken es k) es ≡ t → Inserted es k b
+    at true e = record { r = Ok (position_or_len (taken es k) es); call = record { answers = rw e refl; leaves = refl } }
+    at false e = record { r = Err (record {}); call = record { answers = rw e refl; leaves = refl } }
+
+can : (o : Operation) (xs : List Entry) → Does o xs (told_by o xs) (left_by o xs)
+can (inserts k b) xs =
+    let i = inserted xs k b in
+    subst (λ (a : ℕ × List ℕ). Does (inserts k b) xs (outcome a k b) (insert xs k b)) i.call.answers (Does.insert i.call)
+can empties xs = Does.empty (record { leaves = refl; clears = refl })
+can (drops a n) xs = Does.drop (record { answers = refl; leaves = refl })
+
+pub calls_can_be_made : CallsCanBeMade
+unfolding CallsCanBeMade
+calls_can_be_made = record { operations = reached Does can; find = λ xs k. (find xs k, refl) }

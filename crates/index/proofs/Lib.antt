@@ -1,3 +1,4 @@
+pub mod Along
 pub mod InCode
 pub mod Slots
 pub mod Clearing

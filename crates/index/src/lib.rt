@@ -1,6 +1,8 @@
 // The index of blocks (document 02, Q-4 and Q-5): a caller lends a slice of entries.
 #![tactic(auto)]
 
+pub mod history;
+
 ghost use Rattle.std.specs.Prelude.{◌≡◌};
 ghost use Rattle.std.specs.List.{position};
 ghost use Rattle.entry.specs.Index.{taken, renewed};
