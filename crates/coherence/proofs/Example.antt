@@ -7,10 +7,10 @@ use Rattle.agreement.proofs.Checks.CasesHold.{translations}
 use Rattle.agreement.proofs.Laws.Runs.{held}
 use Rattle.entry.specs.Index.{blank, touches}
 use Rattle.entry.specs.declared.Entry.{Entry}
-use Rattle.coherence.specs.Keeping.{Codes, Writes, Request, Operation, Operation.translates, Operation.writes, after, IsCurrent}
+use Rattle.coherence.specs.Keeping.{Codes, Writes, Request, Operation, Operation.translates, Operation.writes, after, IsCurrent, KeepsSpans}
 use Rattle.coherence.proofs.Kept.{keeps_spans}
 use Rattle.coherence.proofs.Found.{found_may_be_entered}
-use Rattle.coherence.specs.Entering.{AskedOfCode, Enters, MayBeEntered}
+use Rattle.coherence.specs.Entering.{AskedOfCode, Enters, MayBeEntered, FoundMayBeEntered}
 use Rattle.coherence.specs.Keeping.{run_for, codes_after}
 use Rattle.agreement.specs.Statement.Kept.{Kept}
 use Rattle.agreement.specs.Statement.Machine.{Turn}
@@ -58,7 +58,7 @@ one_byte satp x low first second = at (eqb x 0x80000006) refl
 
 -- and the first is current
 first_current : IsCurrent before operations (entry 1 1 0x80000000 0 88)
-unfolding translations words run_at touches
+unfolding translations words run_at touches KeepsSpans
 first_current = keeps_spans (blank ∷ blank ∷ []) before operations refl (one_byte, tt) 0 (entry 1 1 0x80000000 0 88) refl refl
 
 -- 2. What it says of that entry: it is of the second translation from the end, and of no other
@@ -124,7 +124,7 @@ enters q those these t h = record {
 }
 
 first_found : MayBeEntered before operations (record { satp = 1; pc = 0x80000000 }) (entry 1 1 0x80000000 0 88)
-unfolding translations words run_at touches
+unfolding translations words run_at touches FoundMayBeEntered
 first_found = found_may_be_entered (blank ∷ blank ∷ []) before operations refl (one_byte, tt) (record { satp = 1; pc = 0x80000000 }) (entry 1 1 0x80000000 0 88) refl
 
 may_be : (m : MayBeEntered before operations (record { satp = 1; pc = 0x80000000 }) (entry 1 1 0x80000000 0 88)) (t : Turn)

@@ -11,7 +11,7 @@ use Rattle.entry.specs.declared.Key.{Key}
 use Rattle.entry.specs.declared.Entry.{Entry}
 use Rattle.entry.specs.declared.NativeBlock.{NativeBlock}
 use Rattle.entry.proofs.LastShown.{held}
-use Rattle.coherence.specs.Keeping.{Codes, Request, reply_to, Operation, codes_after, after, IsCurrent}
+use Rattle.coherence.specs.Keeping.{Codes, Request, reply_to, Operation, codes_after, after, IsCurrent, KeepsSpans}
 use Rattle.coherence.specs.Entering.{AskedOfCode, Enters, FoundMayBeEntered}
 use Rattle.coherence.proofs.Kept.{keeps_spans}
 
@@ -57,6 +57,7 @@ module _ (cs : Codes) (operations : List Operation) (e : Entry) (c : IsCurrent c
   }
 
 pub found_may_be_entered : FoundMayBeEntered
+unfolding FoundMayBeEntered KeepsSpans
 found_may_be_entered es cs operations n w j e f =
     let s = found_in (holds j) (after es cs operations) e f in
     let u = held j e s.passes in

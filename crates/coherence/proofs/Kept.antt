@@ -139,4 +139,5 @@ keep es cs (writes a m cs' ∷ earlier) n w = written cs earlier (after es cs ea
 keep es cs (empties ∷ earlier) n w = emptied cs earlier (after es cs earlier) (keep es cs earlier n w)
 
 pub keeps_spans : KeepsSpans
+unfolding KeepsSpans
 keeps_spans = keep

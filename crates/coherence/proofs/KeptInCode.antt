@@ -8,12 +8,11 @@ use Rattle.block.specs.declared.Block as Rust
 use Rattle.block.specs.declared.Refusal.{Refusal}
 use Rattle.block.specs.declared.Refusal.TheVariants.{LimitZero, OddStart, Missing, NotTaken, OutputShort}
 use Rattle.block.proofs.CallerReadsReply.{reads}
-use Rattle.entry.specs.Index.{drop_touched, empty, find, insert}
+use Rattle.entry.specs.Index.{insert}
 use Rattle.entry.specs.declared.Entry.{Entry}
-use Rattle.coherence.specs.Keeping.{Codes, Request, reply_to, run_for, key, Operation, codes_after, inserted, after, AllCurrent}
-use Rattle.coherence.specs.KeepingInCode.{Calls, native_of, Leads, KeepsSpansInCode, FoundMayBeEnteredInCode}
-use Rattle.coherence.proofs.Kept.{keeps_spans}
-use Rattle.coherence.proofs.Found.{found_may_be_entered}
+use Rattle.coherence.specs.Keeping.{Codes, Request, reply_to, run_for, key, Operation, inserted}
+use Rattle.coherence.specs.KeepingInCode.{Calls, native_of, Does, KeepsSpansInCode, FoundMayBeEnteredInCode}
+use Rattle.coherence.proofs.Along.{left_by, keeps_spans_of, found_may_be_entered_of}
 
 module _ (q : Request) (cs : Codes) where
   -- what is read off the answer is the definition's reply
@@ -36,22 +35,16 @@ module _ (q : Request) (cs : Codes) where
   none_inserted (NotTaken w) c es = ap (inserted es q) (replied _ c)
   none_inserted OutputShort c es = ap (inserted es q) (replied _ c)
 
-pub led : (es : List Entry) (cs : Codes) (operations : List Operation) (xs : List Entry) → Leads es cs operations xs → xs ≡ after es cs operations
-led es cs operations xs Leads.begin = refl
-led es cs operations ys (Leads.insert {operations = earlier} {xs = xs} {q = q} {b = b} l c i) =
-    i.leaves ∙ sym (same_block q (codes_after cs earlier) b c xs)
-    ∙ ap (λ (zs : List Entry). inserted zs q (reply_to q (codes_after cs earlier))) (led es cs earlier xs l)
-led es cs operations xs (Leads.refused {operations = earlier} {q = q} {r = r} l c) =
-    sym (none_inserted q (codes_after cs earlier) r c xs)
-    ∙ ap (λ (zs : List Entry). inserted zs q (reply_to q (codes_after cs earlier))) (led es cs earlier xs l)
-led es cs operations ys (Leads.drop {operations = earlier} {xs = xs} {a = a} {n = n} l d) =
-    d.leaves ∙ ap (λ (zs : List Entry). drop_touched zs a n) (led es cs earlier xs l)
-led es cs operations ys (Leads.empty {operations = earlier} {xs = xs} l d) = d.leaves ∙ ap empty (led es cs earlier xs l)
+leaves : (cs : Codes) (o : Operation) (xs ys : List Entry) → Does cs o xs ys → ys ≡ left_by cs o xs
+leaves cs o xs ys (Does.insert {q = q} {b = b} c i) = i.leaves ∙ sym (same_block q cs b c xs)
+leaves cs o xs ys (Does.refused {q = q} {r = r} c) = sym (none_inserted q cs r c xs)
+leaves cs o xs ys (Does.drop d) = d.leaves
+leaves cs o xs ys (Does.empty d) = d.leaves
 
 pub keeps_spans_in_code : KeepsSpansInCode
-keeps_spans_in_code es xs cs operations n w l =
-    subst (AllCurrent cs operations) (sym (led es cs operations xs l)) (keeps_spans es cs operations n w)
+unfolding KeepsSpansInCode
+keeps_spans_in_code = keeps_spans_of Does leaves
 
 pub found_may_be_entered_in_code : FoundMayBeEnteredInCode
-found_may_be_entered_in_code es xs cs operations n w l j e f =
-    found_may_be_entered es cs operations n w j e (sym (f ∙ ap (λ (zs : List Entry). find zs j) (led es cs operations xs l)))
+unfolding FoundMayBeEnteredInCode
+found_may_be_entered_in_code = found_may_be_entered_of Does leaves _ (λ xs j e f. sym f)

@@ -1,5 +1,6 @@
 pub mod Kept
 pub mod Found
+pub mod Along
 pub mod KeptInCode
 pub mod Reached
 pub mod Example

@@ -32,6 +32,6 @@ pub record MayBeEntered (cs : Codes) (operations : List Operation) (j : Key) (e 
   pub enters : (k : Kept) → Enters current.request (codes_after cs current.earlier) (codes_after cs operations) k
       → e.block.span ≤ 2 * k.reach → AskedOfCode k j.pc
 
-abbrev pub FoundMayBeEntered : Type 0
+unfoldable pub FoundMayBeEntered : Type 0
 FoundMayBeEntered = (es : List Entry) (cs : Codes) (operations : List Operation) → list_any is_in_use es ≡ false → OnlyWrites cs operations
     → (j : Key) (e : Entry) → find (after es cs operations) j ≡ Some e → MayBeEntered cs operations j e

@@ -96,6 +96,6 @@ pub record IsCurrent (cs : Codes) (operations : List Operation) (e : Entry) : Ty
 abbrev pub AllCurrent : Codes → List Operation → List Entry → Type 0
 AllCurrent cs operations es = (slot : ℕ) (e : Entry) → slice_get es slot ≡ Some e → is_in_use e ≡ true → IsCurrent cs operations e
 
-abbrev pub KeepsSpans : Type 0
+unfoldable pub KeepsSpans : Type 0
 KeepsSpans = (es : List Entry) (cs : Codes) (operations : List Operation) → list_any is_in_use es ≡ false → OnlyWrites cs operations
     → AllCurrent cs operations (after es cs operations)

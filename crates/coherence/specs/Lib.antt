@@ -1,3 +1,4 @@
 pub mod Keeping
 pub mod Entering
+pub mod KeepingOf
 pub mod KeepingInCode
