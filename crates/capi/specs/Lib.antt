@@ -1,2 +1,4 @@
 pub mod Replies
 pub mod Indexes
+pub mod HistoryInC
+pub mod KeepingInC

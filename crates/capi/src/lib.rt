@@ -1,6 +1,9 @@
 // The translator as functions for Rust and C: slices as pointer and length, replies as document 01's numbers.
 #![tactic(auto)]
 
+pub mod history;
+pub mod keeping;
+
 ghost use Rattle.std.specs.Prelude.{◌≡◌};
 ghost use Rattle.agreement.specs.Riscv.Run.{in_line};
 ghost use Rattle.agreement.specs.Translation.Kind.{kind, kind_number};

@@ -1,0 +1,2 @@
+pub mod IndexInC
+pub mod KeptInC
