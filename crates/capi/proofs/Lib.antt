@@ -1,2 +1,3 @@
 pub mod IndexInC
 pub mod KeptInC
+pub mod Applied

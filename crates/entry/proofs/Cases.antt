@@ -1,4 +1,4 @@
--- The definitions held against the requests' text (document 02, Q-4 and Q-5): cases worked by hand, computed.
+-- The definitions held against the requests' text (docs/SCOPE.md, "The index"): cases worked by hand, computed.
 use Rattle.std.proofs.Common.{◌≡◌, refl, true, false, List, [], ◌∷◌, ℕ, ◌-◌, ◌^◌}
 use Rattle.std.specs.Prelude.{Some, None}
 use Rattle.entry.specs.Index.{find, insert, insert_answer, empty, touches, drop_touched, drop_answer}
@@ -8,17 +8,17 @@ use Rattle.entry.specs.declared.Entry.{Entry}
 use Rattle.entry.specs.declared.NativeBlock.{NativeBlock}
 
 -- offset, count, length, span
-abbrev block : ℕ → ℕ → ℕ → ℕ → NativeBlock
+abbrev pub block : ℕ → ℕ → ℕ → ℕ → NativeBlock
 block offset count length span = record { offset = offset; count = count; length = length; span = span }
 
-abbrev key : ℕ → ℕ → Key
+abbrev pub key : ℕ → ℕ → Key
 key satp pc = record { satp = satp; pc = pc }
 
 -- mark, satp, pc, and the block's parts
-abbrev entry : ℕ → ℕ → ℕ → ℕ → ℕ → ℕ → ℕ → Entry
+abbrev pub entry : ℕ → ℕ → ℕ → ℕ → ℕ → ℕ → ℕ → Entry
 entry mark satp pc offset count length span = record { satp = satp; pc = pc; block = block offset count length span; in_use = mark }
 
-abbrev zeros : Entry
+abbrev pub zeros : Entry
 zeros = entry 0 0 0 0 0 0 0
 
 -- a key in two entries in use, behind one that is not in use and has it too
@@ -26,7 +26,7 @@ abbrev twice : List Entry
 twice = entry 0 1 2 3 4 5 6 ∷ entry 1 1 2 5 6 7 8 ∷ entry 1 1 2 7 8 9 10 ∷ []
 
 -- every entry in use
-abbrev full : List Entry
+abbrev pub full : List Entry
 full = entry 1 1 2 3 4 5 6 ∷ entry 7 1 5 6 7 8 9 ∷ entry (2 ^ 32 - 1) 8 2 9 10 11 12 ∷ []
 
 -- 1. Find, insert, empty

@@ -3,3 +3,4 @@ pub mod LastShown
 pub mod Touching
 pub mod Refusing
 pub mod Cases
+pub mod Applied

@@ -2,3 +2,4 @@ pub mod Along
 pub mod InCode
 pub mod Slots
 pub mod Clearing
+pub mod Applied
