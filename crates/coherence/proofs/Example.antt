@@ -87,8 +87,9 @@ its_length c = sym (ap (λ (x : NativeBlock). x.length) c.has_block)
 
 -- 3. It is found, and there is a turn that enters it
 
-abbrev entering : Request → Codes → Codes → Turn → Kept
-entering q those these t = record {
+-- with the code as it is, of which so many halfwords can be fetched
+abbrev pub entering : Request → Codes → Codes → Turn → ℕ → Kept
+entering q those these t reach = record {
   turn = record {
     limit = q.limit;
     made = run_for q those;
@@ -108,11 +109,12 @@ entering q those these t = record {
     helper = t.helper;
   };
   now = these q.satp;
-  reach = 2;
+  reach = reach;
 }
 
-enters : (q : Request) (those these : Codes) (t : Turn) → length t.output ≡ q.room → Enters q those these (entering q those these t)
-enters q those these t h = record {
+pub enters : (q : Request) (those these : Codes) (t : Turn) (reach : ℕ) → length t.output ≡ q.room
+    → Enters q those these (entering q those these t reach)
+enters q those these t reach h = record {
   limit = refl;
   made = refl;
   code = refl;
@@ -129,6 +131,6 @@ first_found = found_may_be_entered (blank ∷ blank ∷ []) before operations re
 
 may_be : (m : MayBeEntered before operations (record { satp = 1; pc = 0x80000000 }) (entry 1 1 0x80000000 0 88)) (t : Turn)
     → length t.output ≡ 4099
-    → AskedOfCode (entering m.current.request (codes_after before m.current.earlier) behind t) 0x80000000
+    → AskedOfCode (entering m.current.request (codes_after before m.current.earlier) behind t 2) 0x80000000
 may_be m t h =
-    m.enters _ (enters _ _ behind t (h ∙ sym (ap (λ (x : Request). x.room) (its_request m.current)))) (omega arith)
+    m.enters _ (enters _ _ behind t 2 (h ∙ sym (ap (λ (x : Request). x.room) (its_request m.current)))) (omega arith)

@@ -4,3 +4,4 @@ pub mod Along
 pub mod KeptInCode
 pub mod Reached
 pub mod Example
+pub mod Applied
