@@ -1,3 +1,4 @@
 pub mod IndexInC
 pub mod KeptInC
 pub mod Applied
+pub mod AppliedKept
