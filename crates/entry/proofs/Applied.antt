@@ -80,6 +80,13 @@ three_ended : ShowsLast (after three ended) (events three ended)
 unfolding History
 three_ended = history three ended refl
 
+-- of any key, which is not computed
+any_key : (k : Key) → find (after three written) k
+    ≡ showing k (last (inserted (key 1 8) (block 400 1 67 2) ∷ inserted (key top top) (block 300 1 67 1) ∷ dropped 2 1 ∷ dropped 2 0
+    ∷ events three filled) k)
+unfolding touches
+any_key = three_written.shows
+
 -- the last pc under satp 2, until a write touches the byte at 2
 pub last_pc : find (after three filled) (key 2 top) ≡ Some (entry 1 2 top 0 1 67 4)
 last_pc = three_filled.shows (key 2 top)
@@ -179,6 +186,12 @@ not_refused_held h =
 not_refused_free : (insert_answer (zeros ∷ full) (key top 5)).0 ≡ 8 → ⊥
 unfolding RefusesWhenFull
 not_refused_free h = true≢false ((refuses_when_full (zeros ∷ full) (key top 5)).only h).1
+
+-- of any two entries, which is not computed
+refused_any : (e f : Entry) (k : Key) → find (e ∷ f ∷ []) k ≡ None → list_any free (e ∷ f ∷ []) ≡ false
+    → insert_answer (e ∷ f ∷ []) k ≡ (8, [])
+unfolding RefusesWhenFull
+refused_any e f k = (refuses_when_full (e ∷ f ∷ []) k).always
 
 refused_by_none : insert_answer [] (key top top) ≡ (8, [])
 unfolding RefusesWhenFull
