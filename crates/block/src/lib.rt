@@ -2,6 +2,7 @@
 #![tactic(auto)]
 
 mod first;
+pub mod turns;
 
 ghost use Rattle.std.specs.Prelude.{◌≤◌};
 ghost use Rattle.agreement.specs.Common.{greatest, most_steps};
