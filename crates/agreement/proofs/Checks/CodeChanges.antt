@@ -112,7 +112,7 @@ new_plain : (u : State) → Plainly new_turn (n3 u)
 unfolding reads_a_turn
 new_plain u = record { taken = refl; stops = refl }
 
-four_met : Met n0 four_turns
+pub four_met : Met n0 four_turns
 four_met =
     met_plain n0 old_turn (store_turn ∷ fence_turn ∷ new_turn ∷ []) old_meets old_plain.taken old_plain.stops
     (met_helped n1 store_turn (fence_turn ∷ new_turn ∷ []) for_access 0x0021A023 at_store store_taken store_calls (λ u.
@@ -174,7 +174,7 @@ pub record Four (es : List Event) (m : GuestState) : Type 0 where
   pub x1 : m.registers 1 ≡ 7
   pub count : m.count ≡ 3
 
-four_ends : Ends n0 four_turns Four
+pub four_ends : Ends n0 four_turns Four
 four_ends =
     ends_plain n0 old_turn (store_turn ∷ fence_turn ∷ new_turn ∷ []) Four old_plain.taken old_plain.stops (λ e0 w0.
     ends_helped n1 store_turn (fence_turn ∷ new_turn ∷ []) (λ es. Four (e0 ∷ es)) for_access 0x0021A023 store_taken store_calls (λ e1 w1.

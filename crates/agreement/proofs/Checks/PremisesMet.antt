@@ -103,7 +103,7 @@ turn_of_meets sp g hs r v rax rdx pc s un lr la ld = record {
       };
 }
 
-refused_meets : (pc : ℕ) → MeetsAt refused_turn pc
+pub refused_meets : (pc : ℕ) → MeetsAt refused_turn pc
 unfolding translate run_at
 refused_meets pc = record {
   typed = record { helper16 = omega arith; helper_mem = omega arith; others = λ k h. omega arith };
@@ -149,7 +149,7 @@ met_from ts k =
     met_refused m0 refused_turn (helper_turn ∷ ts) (refused_meets first_pc) first_refused_lem
     (met_helped m0 helper_turn ts for_access 0x0000B083 helper_meets second_taken second_calls k)
 
-three_met : Met m0 three_turns
+pub three_met : Met m0 three_turns
 three_met = met_from (plain_turn ∷ []) (λ u. after_helper_met u [] (λ e. unfold Met in tt))
 
 last_met : (u : State) → Met (after_helper halfword_turn u) (odd_turn ∷ [])
@@ -158,7 +158,7 @@ last_met u = met_refused (after_helper halfword_turn u) odd_turn [] at_pc (fifth
     at_pc : MeetsAt odd_turn (after_helper halfword_turn u).pc
     at_pc = unfold leaves in odd_meets
 
-five_met : Met m0 five_turns
+pub five_met : Met m0 five_turns
 five_met = met_from (plain_turn ∷ halfword_turn ∷ odd_turn ∷ []) (λ u. after_helper_met u (halfword_turn ∷ odd_turn ∷ []) (λ e.
     met_helped (m3 u) halfword_turn (odd_turn ∷ []) for_halfword 0x4108 (rw e halfword_meets)
     (fourth_taken (m3 u) e) (fourth_calls (m3 u) e) last_met))

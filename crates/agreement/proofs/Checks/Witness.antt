@@ -27,7 +27,7 @@ pub record Three (es : List Event) (m : GuestState) : Type 0 where
   pub third_says : PlainSays third.was.pc third.was.b.count third.was.v
   pub after : AfterThree m
 
-three_ends : Ends m0 three_turns Three
+pub three_ends : Ends m0 three_turns Three
 three_ends =
     ends_refused m0 refused_turn (helper_turn ∷ plain_turn ∷ []) Three first_refused_lem (λ e0 a0.
     ends_helped m0 helper_turn (plain_turn ∷ []) (λ es. Three (e0 ∷ es)) for_access 0x0000B083 second_taken second_calls (λ e1 w1.
@@ -77,7 +77,7 @@ pub record FiveTurns (es : List Event) (m : GuestState) : Type 0 where
   pub x0 : (after_helper halfword_turn fourth.call.inside).registers 0 ≡ 0
   pub after : Five m
 
-five_ends : Ends m0 five_turns FiveTurns
+pub five_ends : Ends m0 five_turns FiveTurns
 five_ends =
     ends_refused m0 refused_turn (helper_turn ∷ plain_turn ∷ halfword_turn ∷ odd_turn ∷ []) FiveTurns first_refused_lem (λ e0 a0.
     ends_helped m0 helper_turn (plain_turn ∷ halfword_turn ∷ odd_turn ∷ []) (λ es. FiveTurns (e0 ∷ es))
