@@ -3,3 +3,4 @@ pub mod CodeAgrees
 pub mod Compiled
 pub mod FirstWord
 pub mod ReplyLaws
+mod Witness

@@ -46,7 +46,7 @@ made_before = refl
 abbrev new_turn : Turn
 new_turn = turn_of 0x30008 new_code (words (0x00700093 ∷ 0xFF5FF06F ∷ [])) (leaves 1 0 0 0)
 
-abbrev four_turns : List Turn
+abbrev pub four_turns : List Turn
 four_turns = old_turn ∷ store_turn ∷ fence_turn ∷ new_turn ∷ []
 
 -- 2. The premises are met, and the theorem is applied
