@@ -1,5 +1,5 @@
 -- A run of the code is a history of crate agreement, and the other way round, where what is learned is the reply, and the reply can be learned.
-use Rattle.std.proofs.Common.{◌≡◌, refl, sym, ◌∙◌, subst, List, ℕ, length, Ok, Err}
+use Rattle.std.proofs.Common.{◌≡◌, refl, sym, ◌∙◌, subst, List, ℕ, arith, length, Ok, Err}
 use Rattle.agreement.specs.Translation.Replies.{Reply, numbered, output_after}
 use Rattle.agreement.specs.Translation.Replies.Reply.{block, refusal}
 use Rattle.agreement.specs.Translation.Replies.Refusal.{limit_zero, odd_start, missing, not_taken, output_short}
@@ -44,16 +44,25 @@ run f (History.then r rs) = Run.then (ran f r) (run f rs)
 
 one_run : {learns : Learning} {pc : ℕ} {rb : RegisterBytes} {ts : List Turn} → Faithful learns → (g : Agrees pc rb ts)
     → OneRun learns pc rb ts g.events g.pc' g.rb'
-one_run f g = record { run = run f g.history; only = λ es p b r. g.only es p b (history f r) }
+one_run f g = record {
+  run = run f g.history;
+  only = λ es p b r.
+      let o = g.only es p b (history f r) in
+      let e : g.events ≡ es = o.0 in
+      let q : g.pc' ≡ p = o.1 in
+      let i : g.rb' ≡ b = o.2 in ((cc), (cc), (cc));
+}
 
 pub agreement_by : {learns : Learning} → Faithful learns → AgreementBy learns
 unfolding Agreement
-agreement_by f pc rb ts low x0 met = record { agrees = agreement pc rb ts low x0 met; runs = one_run f (agreement pc rb ts low x0 met) }
+agreement_by f pc rb ts low x0 met =
+    let g : Agrees pc rb ts = agreement pc rb ts (omega (arith, low)) x0 met in
+    record { agrees = g; runs = one_run f g }
 
 pub agreement_of_kept_by : {learns : Learning} → Faithful learns → AgreementOfKeptBy learns
 unfolding AgreementOfKept
 agreement_of_kept_by f pc rb ks low x0 met current =
-    let g : AgreesNow pc rb ks = agreement_of_kept pc rb ks low x0 met current in
+    let g : AgreesNow pc rb ks = agreement_of_kept pc rb ks (omega (arith, low)) x0 met current in
     record { now = g; runs = one_run f g.agrees }
 
 -- 2. Of the library: an answer for each reply

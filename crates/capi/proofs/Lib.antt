@@ -2,3 +2,4 @@ pub mod IndexInC
 pub mod KeptInC
 pub mod Applied
 pub mod AppliedKept
+pub mod ReadInC

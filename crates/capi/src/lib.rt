@@ -3,6 +3,7 @@
 
 pub mod history;
 pub mod keeping;
+pub mod turns;
 
 ghost use Rattle.std.specs.Prelude.{◌≡◌};
 ghost use Rattle.agreement.specs.Riscv.Run.{in_line};
