@@ -3,4 +3,5 @@ pub mod CodeAgrees
 pub mod Compiled
 pub mod FirstWord
 pub mod ReplyLaws
-mod Witness
+pub mod Witness
+pub mod KeptWitness

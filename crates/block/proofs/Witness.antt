@@ -14,13 +14,13 @@ use Rattle.agreement.proofs.Checks.ExampleStates.{reads_a_turn}
 use Rattle.agreement.proofs.Checks.PremisesMet.{five_met, refused_meets, three_met}
 use Rattle.agreement.proofs.Checks.Witness.{FiveTurns, Three, five_ends, three_ends}
 use Rattle.agreement.proofs.Theorem.AlongTheRun.{Met, met, met_refused}
-use Rattle.block.specs.AgreementInCode.{AgreementInCode, AgreesBy, Ran.skip, Run, Run.end, Run.then, Translated}
+use Rattle.block.specs.AgreementInCode.{AgreesBy, Learning, Ran.skip, Run, Run.end, Run.then, Translated}
 use Rattle.block.specs.declared.Refusal.TheVariants.{LimitZero}
 use Rattle.block.proofs.CodeAgrees.{agreement_in_code}
 
 -- 1. The theorem is applied
 
-asked : (pc : ℕ) (ts : List Turn) → pc < 2 ^ 64 → Met (start pc zeros) ts → Premises pc zeros ts
+pub asked : (pc : ℕ) (ts : List Turn) → pc < 2 ^ 64 → Met (start pc zeros) ts → Premises pc zeros ts
 unfolding read
 asked pc ts low h = met ts (start pc zeros) zeros low (λ r k. refl) refl h
 
@@ -36,18 +36,19 @@ four : AgreesBy Translated 0x80000008 zeros four_turns
 unfolding read
 four = agreement_in_code 0x80000008 zeros four_turns (omega arith) refl (asked 0x80000008 four_turns (omega arith) four_met)
 
--- 2. What it says of a run of the code, whichever it is: where it ends, and that along it each turn is as the manual has it
+-- 2. What it says of a run, however replies are learned and whichever it is: where it ends, and that along it each turn is as the manual has it
 
-record EndOfThree (es : List Event) (p : ℕ) (b : RegisterBytes) : Type 0 where
-  on_the_way : Three es (after first_pc zeros three_turns es)
-  pc : p ≡ 0x80000024
-  x1 : read 8 b (8 * 1) ≡ 7
-  x2 : read 8 b (8 * 2) ≡ 8
+pub record EndOfThree (es : List Event) (p : ℕ) (b : RegisterBytes) : Type 0 where
+  pub on_the_way : Three es (after first_pc zeros three_turns es)
+  pub pc : p ≡ 0x80000024
+  pub x1 : read 8 b (8 * 1) ≡ 7
+  pub x2 : read 8 b (8 * 2) ≡ 8
 
-end_of_three : (es : List Event) (p : ℕ) (b : RegisterBytes) → Run Translated first_pc zeros three_turns es p b → EndOfThree es p b
-end_of_three es p b r =
-    let g = three.agrees in
-    let o = three.runs.only es p b r in
+pub end_of_three : {learns : Learning} (a : AgreesBy learns first_pc zeros three_turns) (es : List Event) (p : ℕ) (b : RegisterBytes)
+    → Run learns first_pc zeros three_turns es p b → EndOfThree es p b
+end_of_three a es p b r =
+    let g = a.agrees in
+    let o = a.runs.only es p b r in
     let P : List Event → Type 0 = λ x. Three x (after first_pc zeros three_turns x) in
     let t : P g.events = three_ends _ _ g.events _ _ g.history g.along in
     record {
@@ -57,20 +58,21 @@ end_of_three es p b r =
       x2 = rw (← o.2) (g.at_slots 2 (omega arith) ∙ t.after.x2);
     }
 
--- the run that there is
+-- the run of the code that there is
 run_of_three : EndOfThree three.agrees.events three.agrees.pc' three.agrees.rb'
-run_of_three = end_of_three _ _ _ three.runs.run
+run_of_three = end_of_three three _ _ _ three.runs.run
 
-record EndOfFive (es : List Event) (p : ℕ) (b : RegisterBytes) : Type 0 where
-  on_the_way : FiveTurns es (after first_pc zeros five_turns es)
-  pc : p ≡ 0x80000031
-  x10 : read 8 b (8 * 10) ≡ 9
-  x0 : read 8 b (8 * 0) ≡ 0
+pub record EndOfFive (es : List Event) (p : ℕ) (b : RegisterBytes) : Type 0 where
+  pub on_the_way : FiveTurns es (after first_pc zeros five_turns es)
+  pub pc : p ≡ 0x80000031
+  pub x10 : read 8 b (8 * 10) ≡ 9
+  pub x0 : read 8 b (8 * 0) ≡ 0
 
-end_of_five : (es : List Event) (p : ℕ) (b : RegisterBytes) → Run Translated first_pc zeros five_turns es p b → EndOfFive es p b
-end_of_five es p b r =
-    let g = five.agrees in
-    let o = five.runs.only es p b r in
+pub end_of_five : {learns : Learning} (a : AgreesBy learns first_pc zeros five_turns) (es : List Event) (p : ℕ) (b : RegisterBytes)
+    → Run learns first_pc zeros five_turns es p b → EndOfFive es p b
+end_of_five a es p b r =
+    let g = a.agrees in
+    let o = a.runs.only es p b r in
     let P : List Event → Type 0 = λ x. FiveTurns x (after first_pc zeros five_turns x) in
     let t : P g.events = five_ends _ _ g.events _ _ g.history g.along in
     record {
@@ -81,17 +83,18 @@ end_of_five es p b r =
     }
 
 run_of_five : EndOfFive five.agrees.events five.agrees.pc' five.agrees.rb'
-run_of_five = end_of_five _ _ _ five.runs.run
+run_of_five = end_of_five five _ _ _ five.runs.run
 
-record EndOfFour (es : List Event) (p : ℕ) (b : RegisterBytes) : Type 0 where
-  on_the_way : Four es (after 0x80000008 zeros four_turns es)
-  pc : p ≡ 0x80000000
-  x1 : read 8 b (8 * 1) ≡ 7
+pub record EndOfFour (es : List Event) (p : ℕ) (b : RegisterBytes) : Type 0 where
+  pub on_the_way : Four es (after 0x80000008 zeros four_turns es)
+  pub pc : p ≡ 0x80000000
+  pub x1 : read 8 b (8 * 1) ≡ 7
 
-end_of_four : (es : List Event) (p : ℕ) (b : RegisterBytes) → Run Translated 0x80000008 zeros four_turns es p b → EndOfFour es p b
-end_of_four es p b r =
-    let g = four.agrees in
-    let o = four.runs.only es p b r in
+pub end_of_four : {learns : Learning} (a : AgreesBy learns 0x80000008 zeros four_turns) (es : List Event) (p : ℕ) (b : RegisterBytes)
+    → Run learns 0x80000008 zeros four_turns es p b → EndOfFour es p b
+end_of_four a es p b r =
+    let g = a.agrees in
+    let o = a.runs.only es p b r in
     let P : List Event → Type 0 = λ x. Four x (after 0x80000008 zeros four_turns x) in
     let t : P g.events = four_ends _ _ g.events _ _ g.history g.along in
     record {
@@ -101,17 +104,18 @@ end_of_four es p b r =
     }
 
 run_of_four : EndOfFour four.agrees.events four.agrees.pc' four.agrees.rb'
-run_of_four = end_of_four _ _ _ four.runs.run
+run_of_four = end_of_four four _ _ _ four.runs.run
 
--- 3. Two calls at the last pc, each answered that the limit is 0, x1 to x31 being 2^64 - 1: a run written out by hand, and it is the one
+-- 3. Two calls at the last pc, each answered that the limit is 0, x1 to x31 being 2^64 - 1: a run that is written out, and it is the one that
+-- the theorem has
 
-abbrev last_pc : ℕ
+abbrev pub last_pc : ℕ
 last_pc = 0xFFFFFFFFFFFFFFFF
 
-abbrev full : RegisterBytes
+abbrev pub full : RegisterBytes
 full i = cond (ltb i 8) 0 0xFF
 
-abbrev refused_turns : List Turn
+abbrev pub refused_turns : List Turn
 refused_turns = refused_turn ∷ refused_turn ∷ []
 
 refused_at_last : is_refused refused_turn (start last_pc full) ≡ true
@@ -124,28 +128,30 @@ last_met =
     met_refused m refused_turn (refused_turn ∷ []) (refused_meets last_pc) refused_at_last
     (met_refused m refused_turn [] (refused_meets last_pc) refused_at_last (unfold Met in tt))
 
+pub last_asked : Premises last_pc full refused_turns
+unfolding read
+last_asked = met refused_turns (start last_pc full) full (omega arith) (λ r k. refl) refl last_met
+
 last : AgreesBy Translated last_pc full refused_turns
 unfolding read
-last =
-    agreement_in_code last_pc full refused_turns (omega arith) refl
-    (met refused_turns (start last_pc full) full (omega arith) (λ r k. refl) refl last_met)
+last = agreement_in_code last_pc full refused_turns (omega arith) refl last_asked
 
-abbrev both_events : List Event
+abbrev pub both_events : List Event
 both_events = rejected last_pc limit_zero ∷ rejected last_pc limit_zero ∷ []
 
-by_hand : Run Translated last_pc full refused_turns both_events last_pc full
+written : Run Translated last_pc full refused_turns both_events last_pc full
 unfolding translate numbered output_after
-by_hand = then (skip call) (then (skip call) end)
+written = then (skip call) (then (skip call) end)
   where
     call : Translated last_pc refused_turn (refusal limit_zero)
     call = record { answer = Err LimitZero; after = []; translates = record { answers = refl; leaves = refl }; reads = refl }
 
 record EndOfLast : Type 0 where
   events : last.agrees.events ≡ both_events
-  pc : last.agrees.pc' ≡ last_pc
+  pub pc : last.agrees.pc' ≡ last_pc
   bytes : last.agrees.rb' ≡ full
 
 end_of_last : EndOfLast
 end_of_last =
-    let o = last.runs.only both_events last_pc full by_hand in
+    let o = last.runs.only both_events last_pc full written in
     record { events = o.0; pc = o.1; bytes = o.2 }

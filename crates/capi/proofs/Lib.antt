@@ -3,3 +3,4 @@ pub mod KeptInC
 pub mod Applied
 pub mod AppliedKept
 pub mod ReadInC
+mod TurnsWitness

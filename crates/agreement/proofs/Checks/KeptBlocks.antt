@@ -28,40 +28,40 @@ use Rattle.agreement.proofs.Checks.StaleBlock.{recoded}
 
 -- 1. The guest: the code as it is now at 0x80000000 is ADDI x1, x0, 5; C.LI x10, 0; a word that is not taken
 
-abbrev now : Code
+abbrev pub now : Code
 now = held 0x80000000 (words (0x00500093 ∷ []) ++ 0x4108 ∷ words (0x4020C1B3 ∷ []))
 
 -- when the first block was made, a word that is not taken stood behind its ADDI, and ended it
-abbrev first_code : Code
+abbrev pub first_code : Code
 first_code = held 0x80000000 (words (0x00500093 ∷ 0x4020C1B3 ∷ []))
 
-abbrev first_turn : Turn
+abbrev pub first_turn : Turn
 first_turn = turn_of 0x30008 first_code (words (0x00500093 ∷ 0x4020C1B3 ∷ [])) (leaves 1 0 0 0)
 
 -- when the second was made, other code stood behind its halfword
-abbrev second_code : Code
+abbrev pub second_code : Code
 second_code = held 0x80000004 (0x4108 ∷ 0xFFFF ∷ [])
 
-abbrev second_turn : Turn
+abbrev pub second_turn : Turn
 second_turn = turn_of 0x30008 second_code (0x4108 ∷ 0xFFFF ∷ []) (leaves 10 9 0x80000006 1)
 
 -- the last word, refused before the code in front of it was this
-abbrev third_code : Code
+abbrev pub third_code : Code
 third_code = held 0x80000006 (words (0x4020C1B3 ∷ []))
 
-abbrev third_turn : Turn
+abbrev pub third_turn : Turn
 third_turn = turn_of 0x30008 third_code (words (0x4020C1B3 ∷ [])) (leaves 1 0 0 0)
 
-abbrev first_kept : Kept
+abbrev pub first_kept : Kept
 first_kept = record { turn = first_turn; now = now; reach = 2 }
 
-abbrev second_kept : Kept
+abbrev pub second_kept : Kept
 second_kept = record { turn = second_turn; now = now; reach = 64 }
 
-abbrev third_kept : Kept
+abbrev pub third_kept : Kept
 third_kept = record { turn = third_turn; now = now; reach = 2 }
 
-abbrev three_kept : List Kept
+abbrev pub three_kept : List Kept
 three_kept = first_kept ∷ second_kept ∷ third_kept ∷ []
 
 -- the agreement itself says nothing of them
@@ -172,13 +172,13 @@ third_meets =
     (unfold words run_at in refl) (omega arith) (omega arith) (omega arith)
 
 -- the manual's states: at the start, after the first turn, and after the second, whose helper was entered in u
-abbrev n0 : GuestState
+abbrev pub n0 : GuestState
 n0 = start 0x80000000 zeros
 
-abbrev n1 : GuestState
+abbrev pub n1 : GuestState
 n1 = after_plain first_turn n0
 
-abbrev n2 : State → GuestState
+abbrev pub n2 : State → GuestState
 n2 u = after_helper second_turn u
 
 first_taken : is_refused first_turn n0 ≡ false
@@ -223,7 +223,7 @@ three_met = (first_meets, first_current, λ e pc' rb rb' h w. rw (after_plain_le
           rw c.turned (third_met c.call.inside),
     )
 
-asked : Asked 0x80000000 zeros three_kept
+pub asked : Asked 0x80000000 zeros three_kept
 unfolding read
 asked = met_now three_kept n0 zeros (omega arith) (λ r k. refl) refl three_met
 
@@ -276,7 +276,7 @@ helper_pc : (u : State) → (n2 u).pc ≡ 0x80000006
 unfolding leaves
 helper_pc u = refl
 
-three_turns : (es : List Event) {pc' : ℕ} {rb' : RegisterBytes} → History 0x80000000 zeros (turns three_kept) es pc' rb'
+pub three_turns : (es : List Event) {pc' : ℕ} {rb' : RegisterBytes} → History 0x80000000 zeros (turns three_kept) es pc' rb'
     → Along n0 (turns three_kept) es → AlongNow n0 three_kept es → Three es
 unfolding turns Along AlongNow manual feeds_now
 three_turns [] h a n = elim h [ ]
