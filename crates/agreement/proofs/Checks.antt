@@ -25,3 +25,10 @@ pub mod KeptBlocks
 pub mod RefusedTurns
 pub mod AtTheBounds
 pub mod WrongCases
+pub mod Sites
+pub mod OneCall
+pub mod Jumping
+pub mod JumpList
+pub mod Alone
+pub mod BoldHelpers
+pub mod HelperTurns

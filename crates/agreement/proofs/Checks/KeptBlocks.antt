@@ -19,7 +19,7 @@ use Rattle.agreement.proofs.Checks.Example.{leaves, turn_of, zeros}
 use Rattle.agreement.proofs.Checks.ExampleStates.{reads_a_turn}
 use Rattle.agreement.proofs.Checks.PremisesMet.{Allowed, turn_of_meets}
 use Rattle.agreement.proofs.Laws.Runs.{held}
-use Rattle.agreement.proofs.Theorem.AlongTheRun.{MeetsAt}
+use Rattle.agreement.proofs.Theorem.AlongTheRun.{MeetsAt, x0_of}
 use Rattle.agreement.proofs.Theorem.Consequences.{WentHelped, WentPlainly, after_helper, after_helper_lem, after_plain, after_plain_lem, after_refused, read_as}
 use Rattle.agreement.proofs.Theorem.Determined.{turned_once}
 use Rattle.agreement.proofs.Theorem.Kept.{agreement_of_kept}
@@ -89,7 +89,7 @@ met_now (k ∷ ks) m rb low sl z h = ((a.typed, a.unchanged, enter, λ e pc' rb'
     a = h.0
 
     enter : (b : Block) → reply k.turn m.pc ≡ block b → Enterable k.turn b rb
-    enter b = a.enterable b rb
+    enter b = a.enterable b rb (x0_of rb m sl z)
 
     l : Led k.turn m rb
     l = led k.turn m rb a.typed a.unchanged enter low sl z

@@ -95,7 +95,7 @@ pub turn_of_meets : (sp : ℕ) (g : Code) (hs : List ℕ) (r v rax rdx pc : ℕ)
 turn_of_meets sp g hs r v rax rdx pc s un lr la ld = record {
   typed = record { helper16 = omega arith; helper_mem = omega arith; others = λ k h. omega arith };
   unchanged = λ r. un;
-  enterable = λ b rb e.
+  enterable = λ b rb z e.
       let n : length b.code ≤ 4099 = no_longer (turn_of sp g hs (leaves r v rax rdx)) pc b e in
       record {
         layout = laid_out sp g hs (leaves r v rax rdx) (length b.code) s n;
@@ -108,7 +108,7 @@ unfolding translate run_at
 refused_meets pc = record {
   typed = record { helper16 = omega arith; helper_mem = omega arith; others = λ k h. omega arith };
   unchanged = λ r. refl;
-  enterable = λ b rb e. absurd (let z : ◌≡◌ {A = ℕ} 0 1 = cc in omega arith);
+  enterable = λ b rb x0 e. absurd (let z : ◌≡◌ {A = ℕ} 0 1 = cc in omega arith);
 }
 
 helper_meets : MeetsAt helper_turn first_pc

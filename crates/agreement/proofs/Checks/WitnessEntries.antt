@@ -25,7 +25,7 @@ use Rattle.agreement.proofs.Theorem.MemoryAtEntry.{overlay_out}
 -- 1. Every entry
 
 -- an address where a block may not write is not among those that it wrote
-not_written : (P : ℕ → Bool) (x : ℕ) (ws : List ℕ) → P x ≡ false → all P ws ≡ true → all (λ y. not (eqb y x)) ws ≡ true
+pub not_written : (P : ℕ → Bool) (x : ℕ) (ws : List ℕ) → P x ≡ false → all P ws ≡ true → all (λ y. not (eqb y x)) ws ≡ true
 unfolding all
 not_written P x [] n h = refl
 not_written P x (w ∷ ws) n h = go (P w) refl (eqb w x) refl (not_written P x ws n) h

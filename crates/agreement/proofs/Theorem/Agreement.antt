@@ -109,7 +109,7 @@ from_start pc rb ts r = record {
   history = r.history;
   only = λ es p b h. let q = history_once r.history h in (q.events, q.pcs, q.bytes);
   at_pc = r.at_pc;
-  at_slots = r.at_slots;
+  at_slots = λ i k. r.at_slots i (omega (arith, k));
   at_x0 = r.at_x0;
   at_count = r.at_count;
   along = r.along;
@@ -121,4 +121,4 @@ x0_at_start pc rb z = let e : 8 * 0 ≡ 0 = omega arith in rw e z
 
 pub agreement : Agreement
 unfolding Agreement
-agreement pc rb ts low z g = from_start pc rb ts (turns ts (start pc rb) rb g low (λ i l. refl) (x0_at_start pc rb z))
+agreement pc rb ts low z g = from_start pc rb ts (turns ts (start pc rb) rb g (omega (arith, low)) (λ i l. refl) (x0_at_start pc rb z))

@@ -1,5 +1,5 @@
 -- A list of turns taken along the manual's run, turn by turn: what is asked of it, and where it ends.
-use Rattle.std.proofs.Common.{false, true, List, [], ◌∷◌, ◌≡◌, subst, sym, ◌<◌, ◌^◌, ℕ}
+use Rattle.std.proofs.Common.{false, true, List, [], ◌∷◌, ◌∙◌, ◌≡◌, subst, sym, ◌*◌, ◌<◌, ◌^◌, ℕ, arith}
 use Rattle.agreement.specs.Common.{Helper}
 use Rattle.agreement.specs.Riscv.Run.{GuestState, Stop.called, Stop.plain, manual, turn}
 use Rattle.agreement.specs.Translation.Replies.{Block, Reply.block}
@@ -7,6 +7,7 @@ use Rattle.agreement.specs.Statement.Agreement.{Along, At, feed, feeds, is_refus
 use Rattle.agreement.specs.Statement.Machine.{Event, History, RegisterBytes, Turn, Turned, reply}
 use Rattle.agreement.specs.Statement.Machine.History.{end, then}
 use Rattle.agreement.specs.Statement.Premises.{Enterable, Premises, Typed, Unchanged}
+use Rattle.agreement.specs.X86.Memory.{read}
 use Rattle.agreement.specs.X86.State.{State}
 use Rattle.agreement.proofs.Theorem.Determined.{turned_once}
 use Rattle.agreement.proofs.Theorem.Consequences.{WentHelped, WentPlainly, after_helper_lem, after_plain_lem, after_refused}
@@ -15,11 +16,11 @@ use Rattle.agreement.proofs.Theorem.TurnByTurn.{Led, SlotsAre, led}
 
 -- 1. Premises
 
--- what is asked of one turn at pc, with any register bytes
+-- what is asked of one turn at pc, with any register bytes whose slot x0 is zero
 pub record MeetsAt (t : Turn) (pc : ℕ) : Type 0 where
   pub typed : Typed t
   pub unchanged : Unchanged t pc
-  pub enterable : (b : Block) (rb : RegisterBytes) → reply t pc ≡ block b → Enterable t b rb
+  pub enterable : (b : Block) (rb : RegisterBytes) → read 8 rb 0 ≡ 0 → reply t pc ≡ block b → Enterable t b rb
 
 -- of each turn, at the manual's pc
 unfoldable pub Met : GuestState → List Turn → Type 0
@@ -27,6 +28,10 @@ Met m [] = Unit
 Met m (t ∷ ts) =
     MeetsAt t m.pc
     × ((e : Event) (pc' : ℕ) (rb rb' : RegisterBytes) → Turned m.pc rb t e pc' rb' → At m t e → Met (turn (feed t e) m) ts)
+
+-- slot x0 of register bytes that are the registers of a state
+pub x0_of : (rb : RegisterBytes) (m : GuestState) → SlotsAre rb m → m.registers 0 ≡ 0 → read 8 rb 0 ≡ 0
+x0_of rb m sl z = let e : 8 * 0 ≡ 0 = omega arith in rw e at (sl 0 (omega arith)) ∙ z
 
 pub met : (ts : List Turn) (m : GuestState) (rb : RegisterBytes)
     → m.pc < 2 ^ 64 → SlotsAre rb m → m.registers 0 ≡ 0 → Met m ts → Premises m.pc rb ts
@@ -38,7 +43,7 @@ met (t ∷ ts) m rb low sl z h = (a.typed, a.unchanged, enter, λ e pc' rb' k. o
     a = h.0
 
     enter : (b : Block) → reply t m.pc ≡ block b → Enterable t b rb
-    enter b = a.enterable b rb
+    enter b = a.enterable b rb (x0_of rb m sl z)
 
     l : Led t m rb
     l = led t m rb a.typed a.unchanged enter low sl z

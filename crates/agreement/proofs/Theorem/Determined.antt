@@ -10,30 +10,30 @@ use Rattle.agreement.specs.X86.Form.{Instr, Instr.call_rax, Instr.ret}
 use Rattle.agreement.specs.X86.State.{Flags, Permissions, State}
 use Rattle.agreement.specs.X86.Step.{Fetch, Goes, Goes.done, Goes.more, next, step}
 
-record Alike (n m : ℕ) (ws vs : List ℕ) (s t : State) : Type 0 where
-  steps : n ≡ m
-  log : ws ≡ vs
-  state : s ≡ t
+pub record Alike (n m : ℕ) (ws vs : List ℕ) (s t : State) : Type 0 where
+  pub steps : n ≡ m
+  pub log : ws ≡ vs
+  pub state : s ≡ t
 
-record Once (s t : State) (ws vs : List ℕ) : Type 0 where
-  state : s ≡ t
-  log : ws ≡ vs
+pub record Once (s t : State) (ws vs : List ℕ) : Type 0 where
+  pub state : s ≡ t
+  pub log : ws ≡ vs
 
-once : (undefined : State → Flags) (ok : Permissions) (s : State) {t u : State} {ws vs : List ℕ}
+pub once : (undefined : State → Flags) (ok : Permissions) (s : State) {t u : State} {ws vs : List ℕ}
     → step undefined ok s ≡ Some (t, ws) → step undefined ok s ≡ Some (u, vs) → Once t u ws vs
 once undefined ok s {t = t} {u = u} {ws = ws} {vs = vs} p q =
     let r : ◌≡◌ {A = State × List ℕ} (t, ws) (u, vs) = cc in
     record { state = ap (λ (z : State × List ℕ). z.0) r; log = ap (λ (z : State × List ℕ). z.1) r }
 
 -- a CALL or RET is next
-data Turns : Instr → Type 0 where
+pub data Turns : Instr → Type 0 where
   by_call : Turns call_rax
   by_ret : Turns ret
 
-record Halts (ok : Permissions) (s : State) : Type 0 where
-  f : Fetch
-  fetch : next ok s ≡ Some f
-  turns : Turns f.instr
+pub record Halts (ok : Permissions) (s : State) : Type 0 where
+  pub f : Fetch
+  pub fetch : next ok s ≡ Some f
+  pub turns : Turns f.instr
 
 turns_clash : {i : Instr} → Turns i → i ≢ call_rax → i ≢ ret → ⊥
 turns_clash by_call c r = c refl
@@ -42,7 +42,7 @@ turns_clash by_ret c r = r refl
 clash : (ok : Permissions) (s : State) (f : Fetch) → next ok s ≡ Some f → f.instr ≢ call_rax → f.instr ≢ ret → Halts ok s → ⊥
 clash ok s f e c r h = let q : h.f ≡ f = cc in turns_clash (rw q at h.turns) c r
 
-goes_once : (undefined : State → Flags) (ok : Permissions) {s t u : State} {n m : ℕ} {ws vs : List ℕ}
+pub goes_once : (undefined : State → Flags) (ok : Permissions) {s t u : State} {n m : ℕ} {ws vs : List ℕ}
     → Goes undefined ok s n ws t → Halts ok t → Goes undefined ok s m vs u → Halts ok u → Alike n m ws vs t u
 goes_once undefined ok done h done k = record { steps = refl; log = refl; state = refl }
 goes_once undefined ok done h (more {s = s} {f = f} e c z g r) k = absurd (clash ok s f e c z h)
@@ -52,18 +52,18 @@ goes_once undefined ok {u = u} (more {s = s} e c z g r) h (more {n = n} {vs = vs
     let a = goes_once undefined ok r h (subst (λ (z : State). Goes undefined ok z n vs u) (sym o.state) r') k in
     record { steps = ap suc a.steps; log = rw (o.log, a.log); state = a.state }
 
-halts : (t : Turn) (i : Instr) {u v : State} {ws : List ℕ} → Turns i → By t i u v ws → Halts t.ok u
+pub halts : (t : Turn) (i : Instr) {u v : State} {ws : List ℕ} → Turns i → By t i u v ws → Halts t.ok u
 halts t i e b = record { f = record { instr = i; size = b.size }; fetch = b.fetch; turns = e }
 
 -- from an equal state
-by_from : (t : Turn) (i : Instr) {u u' v : State} {ws : List ℕ} → u ≡ u' → By t i u' v ws → By t i u v ws
+pub by_from : (t : Turn) (i : Instr) {u u' v : State} {ws : List ℕ} → u ≡ u' → By t i u' v ws → By t i u v ws
 by_from t i {v = v} {ws = ws} e b = subst (λ (z : State). By t i z v ws) (sym e) b
 
 goes_from : (t : Turn) {u u' v : State} {n : ℕ} {ws : List ℕ} → u ≡ u'
     → Goes t.undefined t.ok (t.helper u') n ws v → Goes t.undefined t.ok (t.helper u) n ws v
 goes_from t {v = v} {n = n} {ws = ws} e g = subst (λ (z : State). Goes t.undefined t.ok (t.helper z) n ws v) (sym e) g
 
-instr_once : (t : Turn) (i j : Instr) {u v w : State} {ws vs : List ℕ} → By t i u v ws → By t j u w vs → i ≡ j
+pub instr_once : (t : Turn) (i j : Instr) {u v w : State} {ws vs : List ℕ} → By t i u v ws → By t j u w vs → i ≡ j
 instr_once t i j b d =
     let f : Fetch = record { instr = i; size = b.size } in
     let g : Fetch = record { instr = j; size = d.size } in
@@ -73,7 +73,7 @@ instr_once t i j b d =
     some_eq : {x y : Fetch} → Some x ≡ Some y → x ≡ y
     some_eq e = cc
 
-not_call : ret ≡ call_rax → ⊥
+pub not_call : ret ≡ call_rax → ⊥
 not_call e = let z : ◌≡◌ {A = ℕ} 0 1 = cc in omega arith
 
 went_once : (t : Turn) {s : State} {v w : Visit} → Went t s v → Went t s w → v ≡ w

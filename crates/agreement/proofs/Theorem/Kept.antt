@@ -264,5 +264,5 @@ list (k ∷ ks) m rb g c low sl z = go (list ks)
 pub agreement_of_kept : AgreementOfKept
 unfolding AgreementOfKept from_start
 agreement_of_kept pc rb ks low z g c =
-    let r = list ks (start pc rb) rb g c low (λ i l. refl) (x0_at_start pc rb z) in
+    let r = list ks (start pc rb) rb g c (omega (arith, low)) (λ i l. refl) (x0_at_start pc rb z) in
     record { agrees = from_start pc rb (turns ks) r.result; along = r.along; at_end = r.at_end }

@@ -70,20 +70,20 @@ own_return t i l k =
 
 place : (t : Turn) (code : List ℕ) → Layout t (length code) → 1 ≤ length code → Place t.ok (own t) t.base t.block (t.sp - 64) code
 place t code l n = record {
-  b_fits = l.base_fits;
+  b_fits = omega (arith, l.base_fits);
   p_fits = omega (arith, l.stack_low, l.stack_fits);
-  c_fits = l.block_fits;
+  c_fits = omega (arith, l.block_fits);
   c_low = omega (arith, l.block_fits);
-  c_b = l.block_base_apart;
-  c_p = l.block_stack_apart;
-  b_p = l.base_stack_apart;
-  b_read = l.base_read;
-  b_write = l.base_write;
-  p_read = l.stack_read;
-  p_write = l.stack_write;
+  c_b = λ i j a b. l.block_base_apart i j (omega (arith, a)) (omega (arith, b));
+  c_p = λ i j a b. l.block_stack_apart i j (omega (arith, a)) (omega (arith, b));
+  b_p = λ i j a b. l.base_stack_apart i j (omega (arith, a)) (omega (arith, b));
+  b_read = λ i h. l.base_read i (omega (arith, h));
+  b_write = λ i h. l.base_write i (omega (arith, h));
+  p_read = λ i h. l.stack_read i (omega (arith, h));
+  p_write = λ i h. l.stack_write i (omega (arith, h));
   own_b = own_slot t;
-  own_p = λ i h k. own_saved t i l.stack_low h k;
-  own_r = λ i k. own_return t i l.stack_low k;
+  own_p = λ i h k. own_saved t i (omega (arith, l.stack_low)) h k;
+  own_r = λ i k. own_return t i (omega (arith, l.stack_low)) k;
 }
 
 -- 2. The state at entry
@@ -100,7 +100,7 @@ entry_words t code rb g b s k l = go (eqb k RSP) (eqb k RDI)
     go : (x y : Bool) → cond x t.sp (cond y t.base (t.others k)) < 2 ^ 64
     go true y = s
     go false true = b
-    go false false = g.others k l
+    go false false = omega (arith, g.others k (omega (arith, l)))
 
 entry_mem : (t : Turn) (code : List ℕ) (rb : RegisterBytes)
     → (enter t code rb).mem ≡ overlay (with_bytes t rb) t.block (length code) (nth code)
@@ -109,8 +109,9 @@ entry_mem t code rb = refl
 
 entry_slot : (t : Turn) (code : List ℕ) (rb : RegisterBytes) → Layout t (length code) → (r : ℕ) → r < 32
     → read 8 (enter t code rb).mem (t.base + 8 * r) ≡ read 8 rb (8 * r)
-entry_slot t code rb l r k = rw (entry_mem t code rb) (slot_shift _ rb t.base r l.base_fits k (λ i h.
-    overlay_out (with_bytes t rb) t.block (length code) (nth code) (t.base + i) (λ j n e. l.block_base_apart j i n h (sym e))
+entry_slot t code rb l r k = rw (entry_mem t code rb) (slot_shift _ rb t.base r (omega (arith, l.base_fits)) k (λ i h.
+    overlay_out (with_bytes t rb) t.block (length code) (nth code) (t.base + i)
+    (λ j n e. l.block_base_apart j i (omega (arith, n)) (omega (arith, h)) (sym e))
     ∙ overlay_in t.rest t.base 256 rb i h))
 
 entry : (t : Turn) (code : List ℕ) (rb : RegisterBytes) (x : Registers) → Typed t → Layout t (length code) → Bytes code
@@ -119,7 +120,9 @@ entry t code rb x ty l s h = record {
   at_code = unfold enter in refl;
   rdi = unfold enter in refl;
   rsp = sp;
-  held = rw (entry_mem t code rb) (laid t.ok.fetch (with_bytes t rb) t.block code l.block_fits s l.block_fetch);
+  held =
+      rw (entry_mem t code rb)
+      (laid t.ok.fetch (with_bytes t rb) t.block code (omega (arith, l.block_fits)) s (λ i h. l.block_fetch i (omega (arith, h))));
   slots = λ r k. entry_slot t code rb l r k ∙ h r k;
   words = entry_words t code rb ty (omega (arith, l.base_fits)) (omega (arith, l.stack_fits));
 }
@@ -180,8 +183,8 @@ returned t code u v l k = record {
   r12 = k.r12;
   r13 = k.r13;
   r14 = k.r14;
-  frame = λ j h. let z : t.sp - 64 + (16 + j) ≡ t.sp - 48 + j = omega (arith, l.stack_low) in rw z (k.frame j h);
-  block = λ i h. let z : at t.block i ≡ t.block + i = omega (arith, l.block_fits) in rw z (k.block i h);
+  frame = λ j h. let z : t.sp - 64 + (16 + j) ≡ t.sp - 48 + j = omega (arith, l.stack_low) in rw z (k.frame j (omega (arith, h)));
+  block = λ i h. let z : at t.block i ≡ t.block + i = omega (arith, l.block_fits) in rw z (k.block i (omega (arith, h)));
 }
 
 -- 4. What one turn comes to: the visit, what holds of it, and the manual's next state
@@ -248,8 +251,8 @@ module _ (t : Turn) (m : GuestState) (rb : RegisterBytes) (ty : Typed t) (un : t
 
     code_bytes : Bytes code
     code_bytes =
-        block_bytes t.helper16 t.helper_mem p ty.helper16 ty.helper_mem (omega (arith, bounds.few)) bounds.end_ok
-        agreed.leads.sound.allowed
+        block_bytes t.helper16 t.helper_mem p (omega (arith, ty.helper16)) (omega (arith, ty.helper_mem)) (omega (arith, bounds.few))
+        bounds.end_ok agreed.leads.sound.allowed
 
     s0 : State
     s0 = enter t code rb
@@ -279,7 +282,7 @@ module _ (t : Turn) (m : GuestState) (rb : RegisterBytes) (ty : Typed t) (un : t
     returns_by w u n ws c x0 e k l = record {
       accepted = rf;
       entry_pc = refl;
-      entry_slots = entry_slots;
+      entry_slots = λ r h. entry_slots r (omega (arith, h));
       entry_x0 = slot_zero s0 (m.registers 0) (entry_slots 0 (omega arith)) zero0;
       exit_x0 = x0;
       rip = rw sp_is at e.rip;
@@ -324,7 +327,7 @@ module _ (t : Turn) (m : GuestState) (rb : RegisterBytes) (ty : Typed t) (un : t
           stop = st;
           rax = l.exit.rax ∙ l.rax;
           rdx = l.exit.rdx ∙ l.rdx;
-          slots = λ r k. rw l.exit.same (l.slots r k);
+          slots = λ r k. rw l.exit.same (l.slots r (omega (arith, k)));
           rest = λ x e. step_unlogged t.undefined t.ok (own t) l.u l.t [] x l.does no_log e
               ∙ way_out t.undefined t.ok (own t) s0 l.u l.n l.way x e;
           count = ct;
@@ -334,7 +337,7 @@ module _ (t : Turn) (m : GuestState) (rb : RegisterBytes) (ty : Typed t) (un : t
       turned = unfold feed feed_of in turn_plain (feed_of t None) m (unfold feed_of in rf) st;
       pcs = l.exit.rax ∙ l.rax;
       counts = unfold plus_rdx in rw (l.exit.rdx ∙ l.rdx);
-      slots = λ r k. slot_after t l.t.mem r ly.base_fits k ∙ rw l.exit.same (l.slots r k);
+      slots = λ r k. slot_after t l.t.mem r (omega (arith, ly.base_fits)) k ∙ rw l.exit.same (l.slots r k);
       x0 = kept.x0 ∙ zero0;
       low = kept.low;
     }
@@ -381,7 +384,7 @@ module _ (t : Turn) (m : GuestState) (rb : RegisterBytes) (ty : Typed t) (un : t
               h = k;
               i = i;
               stop = st;
-              slots = c.slots;
+              slots = λ r l. c.slots r (omega (arith, l));
               r8 = c.r8;
               rcx = c.rcx;
               rdi = c.rdi;
@@ -390,7 +393,7 @@ module _ (t : Turn) (m : GuestState) (rb : RegisterBytes) (ty : Typed t) (un : t
               rsp = rw c.rsp (omega (arith, ly.stack_low));
               aligned = rw c.rsp (omega (arith, ly.aligned, ly.stack_low));
               target = c.target ∙ target_is k;
-              slots_inside = c.slots_inside;
+              slots_inside = λ r l. c.slots_inside r (omega (arith, l));
               rest = λ y e. step_unlogged t.undefined t.ok (own t) c.u a c.call.ws y c.call.does c.call.own e
                   ∙ way_out t.undefined t.ok (own t) s0 c.u c.n c.way y e;
               rax' = r.exit.rax ∙ r.rax;
@@ -403,7 +406,7 @@ module _ (t : Turn) (m : GuestState) (rb : RegisterBytes) (ty : Typed t) (un : t
           turned = unfold feed feed_of left_by in turn_called (fed left) m k i left rf (unfold feed_of in st) refl;
           pcs = r.exit.rax ∙ r.rax;
           counts = unfold plus_rdx in refl;
-          slots = λ j l. slot_after t r.t.mem j ly.base_fits l
+          slots = λ j l. slot_after t r.t.mem j (omega (arith, ly.base_fits)) l
               ∙ ap (λ (m : Memory). read 8 m (t.base + 8 * j)) (r.exit.same ∙ r.same);
           x0 = rw z kp.x0;
           low = kp.rax;
@@ -442,5 +445,6 @@ module _ (t : Turn) (m : GuestState) (rb : RegisterBytes) (ty : Typed t) (un : t
             let w : (i < 2 ^ 32) × (pc < 2 ^ 64) = unfold EndOk in subst EndOk e o in
             let l = calls_leaves t.undefined t.ok (own t) t.base t.block (t.sp - 64) t.helper16 t.helper_mem p pl
             k i pc m.registers q s0 e
-            (omega (arith, w.0)) w.1 ty.helper16 ty.helper_mem (omega (arith, low_added)) entered_at agrees in
+            (omega (arith, w.0)) w.1 (omega (arith, ty.helper16)) (omega (arith, ty.helper_mem)) (omega (arith, low_added))
+            entered_at agrees in
             helped_done k i l.0 l.1 (ct (calls k i pc) e ∙ (unfold counted in ap suc agreed.same))
