@@ -32,3 +32,4 @@ pub mod JumpList
 pub mod Alone
 pub mod BoldHelpers
 pub mod HelperTurns
+pub mod HelperList

@@ -138,11 +138,11 @@ pub record Inside (s : Site) (q : Read) (a : State) : Type 0 where
 
 inside : (s : Site) (g : Code) (hs : List ℕ) (rb : RegisterBytes) (b : Block) (u a : State) → CalledAs s g hs jump_pc rb b u a
     → Inside s (read_as (turn_at s g hs (tidy s)) (start jump_pc rb)) a
+unfolding Entered Called
 inside s g hs rb b u a w = go w.v.call w.says w.called
   where
     go : (o : Option Call) → Entered (turn_at s g hs (tidy s)) b.count w.v (read_as (turn_at s g hs (tidy s)) (start jump_pc rb)) o → Called o u a
         → Inside s (read_as (turn_at s g hs (tidy s)) (start jump_pc rb)) a
-    unfolding Entered Called
     go None y k = absurd k
     go (Some d) y k = record {
       rip = ap (λ (x : State). x.rip) (sym k.1) ∙ y.target ∙ target_is s g hs (tidy s) y.h;

@@ -131,7 +131,7 @@ pub record Jumped (rb : RegisterBytes) (es : List Event) (pc' : ℕ) (rb' : Regi
   pub slots : (r : ℕ) → r < 32 → read 8 rb' (8 * r) ≡ read 8 rb (8 * r)
   pub count : since 0 es ≡ 13
 
-after_sites : (m : GuestState) → m.count ≡ 0 → after_jumps m sites ≡ record { registers = m.registers; pc = jump_pc; count = 13 }
+pub after_sites : (m : GuestState) → m.count ≡ 0 → after_jumps m sites ≡ record { registers = m.registers; pc = jump_pc; count = 13 }
 unfolding sites after_jumps
 after_sites m e = rw e refl
 

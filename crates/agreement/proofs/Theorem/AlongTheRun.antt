@@ -68,11 +68,16 @@ pub met_plain : (m : GuestState) (t : Turn) (ts : List Turn) → MeetsAt t m.pc 
 unfolding Met
 met_plain m t ts a f st k = (a, λ e pc' rb rb' h w. rw (after_plain_lem m f st h w).turned k)
 
+-- with what the theorem says of the call
+pub met_entered : (m : GuestState) (t : Turn) (ts : List Turn) (h : Helper) (i : ℕ) → MeetsAt t m.pc → is_refused t m ≡ false
+    → (read_as t m).stop ≡ called h i → ((e : Event) (w : WentHelped m t e) → Met (after_helper t w.call.inside) ts) → Met m (t ∷ ts)
+unfolding Met
+met_entered m t ts h i a f st k =
+    (a, λ e pc' rb rb' g w. let q = after_helper_lem m h i f st g w in rw q.turned (k e q))
+
 pub met_helped : (m : GuestState) (t : Turn) (ts : List Turn) (h : Helper) (i : ℕ) → MeetsAt t m.pc → is_refused t m ≡ false
     → (read_as t m).stop ≡ called h i → ((u : State) → Met (after_helper t u) ts) → Met m (t ∷ ts)
-unfolding Met
-met_helped m t ts h i a f st k =
-    (a, λ e pc' rb rb' g w. let q = after_helper_lem m h i f st g w in rw q.turned (k q.call.inside))
+met_helped m t ts h i a f st k = met_entered m t ts h i a f st (λ e w. k w.call.inside)
 
 -- 2. Where a list that agrees ends: P holds of its events and of the manual's state after it
 
