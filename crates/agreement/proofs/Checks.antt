@@ -33,3 +33,4 @@ pub mod Alone
 pub mod BoldHelpers
 pub mod HelperTurns
 pub mod HelperList
+pub mod KeptList

@@ -20,7 +20,7 @@ use Rattle.agreement.proofs.Checks.ExampleStates.{reads_a_turn}
 use Rattle.agreement.proofs.Checks.HelperTurns.{half_code, half_good, half_meets, half_reads, half_run, half_site, half_taken, half_turn}
 use Rattle.agreement.proofs.Checks.HelperTurns.{mem_good, mem_known, mem_meets, mem_read, mem_reads, mem_site, mem_taken, mem_turn, mem_x1}
 use Rattle.agreement.proofs.Checks.Jumping.{jump_pc, jump_turn, lone_site, sites, sites_jump}
-use Rattle.agreement.proofs.Checks.JumpList.{EachSays, JumpSays, after_jumps, after_sites, applied_to, jump_turns, jumps_end, jumps_met}
+use Rattle.agreement.proofs.Checks.JumpList.{EachSays, JumpSays, after_jumps, after_sites, applied_to, jump_turns, jumps_end, jumps_met, ones, ones_x0}
 use Rattle.agreement.proofs.Checks.Sites.{turn_at}
 use Rattle.agreement.proofs.Theorem.AlongTheRun.{Ends, MeetsAt, Met, ends_helped, ends_here, ends_refused, met_entered, met_refused}
 use Rattle.agreement.proofs.Theorem.Consequences.{WentHelped, WentPlainly, after_helper, read_as, refused_x0}
@@ -31,18 +31,14 @@ use Rattle.agreement.proofs.Theorem.Consequences.{WentHelped, WentPlainly, after
 abbrev pub last_turn : Turn
 last_turn = turn_at lone_site (λ x. None) [] (λ u. u)
 
-abbrev three : List Turn
+abbrev pub three : List Turn
 three = mem_turn ∷ half_turn ∷ last_turn ∷ []
 
 abbrev pub sixteen : List Turn
 sixteen = jump_turns sites three
 
--- every register but x0 is 2^64 - 1, in bytes that are not below 256
-abbrev pub ones : RegisterBytes
-ones i = cond (ltb i 8) 256 511
-
 -- the manual's state when these three begin
-abbrev n0 : GuestState
+abbrev pub n0 : GuestState
 n0 = record { registers = (start jump_pc ones).registers; pc = jump_pc; count = 13 }
 
 -- 2. Where the helpers are entered
@@ -55,7 +51,7 @@ n0_x0 : n0.registers 0 ≡ 0
 unfolding read
 n0_x0 = refl
 
-mem_called : (read_as mem_turn n0).stop ≡ called for_access 0x0000B083
+pub mem_called : (read_as mem_turn n0).stop ≡ called for_access 0x0000B083
 mem_called = ap (λ (q : Read). q.stop) (mem_reads (wild mem_good mem_site jump_pc) n0 refl)
 
 mem_entered : (e : Event) (w : WentHelped n0 mem_turn e) → mem_good w.call.inside ≡ true
@@ -64,29 +60,29 @@ mem_entered e w =
     (w.says.slots_inside 1 (omega arith) ∙ ap (λ (q : Read). q.registers 1) (mem_reads (wild mem_good mem_site jump_pc) n0 refl) ∙ mem_x1 n0 n0_x0)
 
 -- the manual's state after it
-abbrev n1 : State → GuestState
+abbrev pub n1 : State → GuestState
 n1 a = record { registers = λ r. read 8 (overrun mem_site a.mem) (0x10000 + 8 * r); pc = jump_pc; count = 0 }
 
-after_mem : (e : Event) (w : WentHelped n0 mem_turn e) → after_helper mem_turn w.call.inside ≡ n1 w.call.inside
+pub after_mem : (e : Event) (w : WentHelped n0 mem_turn e) → after_helper mem_turn w.call.inside ≡ n1 w.call.inside
 unfolding bold
 after_mem e w = rw (wild_is mem_good mem_site jump_pc w.call.inside (mem_entered e w)) refl
 
-half_called : (a : State) → (read_as half_turn (n1 a)).stop ≡ called for_halfword 0x4108
+pub half_called : (a : State) → (read_as half_turn (n1 a)).stop ≡ called for_halfword 0x4108
 half_called a = ap (λ (q : Read). q.stop) (half_reads (wild half_good half_site (2 ^ 64 - 1)) (n1 a) refl)
 
 half_entered : (a : State) (e : Event) (w : WentHelped (n1 a) half_turn e) → half_good w.call.inside ≡ true
 half_entered a e w = let z : w.call.inside.rip ≡ 2 ^ 64 - 1 = w.says.target ∙ target_is w.says.h half_turn refl refl in rw z refl
 
-abbrev n2 : State → GuestState
+abbrev pub n2 : State → GuestState
 n2 a = record { registers = λ r. read 8 (overrun half_site a.mem) (2 ^ 64 - 256 + 8 * r); pc = 2 ^ 64 - 1; count = 0 }
 
-after_half : (a : State) (e : Event) (w : WentHelped (n1 a) half_turn e) → after_helper half_turn w.call.inside ≡ n2 w.call.inside
+pub after_half : (a : State) (e : Event) (w : WentHelped (n1 a) half_turn e) → after_helper half_turn w.call.inside ≡ n2 w.call.inside
 unfolding bold
 after_half a e w = rw (wild_is half_good half_site (2 ^ 64 - 1) w.call.inside (half_entered a e w)) refl
 
 -- 3. The premises are met, and the theorem is applied
 
-last_meets : MeetsAt last_turn (2 ^ 64 - 1)
+pub last_meets : MeetsAt last_turn (2 ^ 64 - 1)
 unfolding translate run_at
 last_meets = record {
   typed = record { helper16 = omega arith; helper_mem = omega arith; others = λ k h. omega (arith, h) };
@@ -94,7 +90,7 @@ last_meets = record {
   enterable = λ b rb z e. absurd (let o : ◌≡◌ {A = ℕ} 0 1 = cc in omega arith);
 }
 
-last_refused : (m : GuestState) → m.pc ≡ 2 ^ 64 - 1 → is_refused last_turn m ≡ true
+pub last_refused : (m : GuestState) → m.pc ≡ 2 ^ 64 - 1 → is_refused last_turn m ≡ true
 unfolding reads_a_turn
 last_refused m e = rw e refl
 
@@ -111,12 +107,12 @@ three_met =
     met_entered n0 mem_turn (half_turn ∷ last_turn ∷ []) for_access 0x0000B083 mem_meets (mem_taken n0 refl) mem_called
     (λ e w. rw (after_mem e w) (half_met w.call.inside))
 
-to_n0 : after_jumps (start jump_pc ones) sites ≡ n0
+pub to_n0 : after_jumps (start jump_pc ones) sites ≡ n0
 to_n0 = after_sites (start jump_pc ones) refl
 
 pub sixteen_agrees : Agrees jump_pc ones sixteen
 sixteen_agrees =
-    applied_to jump_pc ones sixteen (omega arith) (unfold read in refl)
+    applied_to jump_pc ones sixteen (omega arith) ones_x0
     (jumps_met sites three (start jump_pc ones) sites_jump refl (λ n e. rw (e ∙ to_n0) three_met))
 
 -- 4. What it says of the turn with the load
@@ -146,9 +142,9 @@ unfolding none own addresses
 mem_alone = refl
 
 -- the last two registers, at entry and as the load finds them
-record High (x : Registers) : Type 0 where
-  x30 : x 30 ≡ 2 ^ 64 - 1
-  x31 : x 31 ≡ 2 ^ 64 - 1
+pub record High (x : Registers) : Type 0 where
+  pub x30 : x 30 ≡ 2 ^ 64 - 1
+  pub x31 : x 31 ≡ 2 ^ 64 - 1
 
 n0_high : High n0.registers
 unfolding read
@@ -223,11 +219,11 @@ half_says {e = e} a w =
     }
 
 -- a refused turn is an event of its own, which has the manual's pc
-record RefusedAt (pc : ℕ) (e : Event) : Type 0 where
-  found : ℕ
-  why : Refusal
-  is : e ≡ rejected found why
-  at : found ≡ pc
+pub record RefusedAt (pc : ℕ) (e : Event) : Type 0 where
+  pub found : ℕ
+  pub why : Refusal
+  pub is : e ≡ rejected found why
+  pub at : found ≡ pc
 
 refused_at : (m : GuestState) (t : Turn) (e : Event) → is_refused t m ≡ true → At m t e → RefusedAt m.pc e
 unfolding At
@@ -236,22 +232,22 @@ refused_at m t (visited pc n v) f a = absurd (let z : true ≡ false = sym f ∙
 
 -- 6. Every history of the list
 
-record Sixteen (es : List Event) (m : GuestState) : Type 0 where
-  front : List Event
-  e1 : Event
-  e2 : Event
-  e3 : Event
-  is : es ≡ front ++ (e1 ∷ e2 ∷ e3 ∷ [])
-  each : EachSays (start jump_pc ones).registers sites front
-  first : WentHelped n0 mem_turn e1
-  first_says : MemSays first.was.b.count first.was.v first.call
-  second : WentHelped (n1 first.call.inside) half_turn e2
-  second_says : HalfSays second.was.b.count second.was.v second.call
-  third : RefusedAt (2 ^ 64 - 1) e3
-  x0 : (n2 second.call.inside).registers 0 ≡ 0
-  after : m ≡ n2 second.call.inside
+pub record Sixteen (es : List Event) (m : GuestState) : Type 0 where
+  pub front : List Event
+  pub e1 : Event
+  pub e2 : Event
+  pub e3 : Event
+  pub is : es ≡ front ++ (e1 ∷ e2 ∷ e3 ∷ [])
+  pub each : EachSays (start jump_pc ones).registers sites front
+  pub first : WentHelped n0 mem_turn e1
+  pub first_says : MemSays first.was.b.count first.was.v first.call
+  pub second : WentHelped (n1 first.call.inside) half_turn e2
+  pub second_says : HalfSays second.was.b.count second.was.v second.call
+  pub third : RefusedAt (2 ^ 64 - 1) e3
+  pub x0 : (n2 second.call.inside).registers 0 ≡ 0
+  pub after : m ≡ n2 second.call.inside
 
-sixteen_ends : Ends (start jump_pc ones) sixteen Sixteen
+pub sixteen_ends : Ends (start jump_pc ones) sixteen Sixteen
 sixteen_ends =
     jumps_end sites three (start jump_pc ones) Sixteen sites_jump refl (λ fs y. rw to_n0
     (ends_helped n0 mem_turn (half_turn ∷ last_turn ∷ []) (λ es. Sixteen (fs ++ es)) for_access 0x0000B083 (mem_taken n0 refl) mem_called (λ e1 w1.
@@ -288,7 +284,7 @@ pub record SixteenEnd (es : List Event) (pc' : ℕ) (rb' : RegisterBytes) : Type
   pub x31 : read 8 rb' (8 * 31) ≡ 0xFFFFFFFFFFFFFFFF
   pub count : since 0 es ≡ 0
 
-n2_high : (a : State) → High (n2 a).registers
+pub n2_high : (a : State) → High (n2 a).registers
 unfolding overrun range read
 n2_high a = record { x30 = refl; x31 = refl }
 
@@ -312,3 +308,61 @@ sixteen_end es pc' rb' h = record {
 
     u : High (n2 k.second.call.inside).registers
     u = n2_high k.second.call.inside
+
+-- 7. A list that begins at the last address: two turns, both refused
+
+abbrev refused_twice : List Turn
+refused_twice = last_turn ∷ last_turn ∷ []
+
+abbrev r0 : GuestState
+r0 = start (2 ^ 64 - 1) ones
+
+r0_refused : is_refused last_turn r0 ≡ true
+r0_refused = last_refused r0 refl
+
+twice_agrees : Agrees (2 ^ 64 - 1) ones refused_twice
+twice_agrees =
+    applied_to (2 ^ 64 - 1) ones refused_twice (omega arith) ones_x0
+    (met_refused r0 last_turn (last_turn ∷ []) last_meets r0_refused (met_refused r0 last_turn [] last_meets r0_refused (unfold Met in tt)))
+
+-- both events have that pc, and nothing changes
+record Twice (es : List Event) (m : GuestState) : Type 0 where
+  e1 : Event
+  e2 : Event
+  is : es ≡ e1 ∷ e2 ∷ []
+  first : RefusedAt 0xFFFFFFFFFFFFFFFF e1
+  second : RefusedAt 0xFFFFFFFFFFFFFFFF e2
+  pc : m.pc ≡ 0xFFFFFFFFFFFFFFFF
+  x31 : m.registers 31 ≡ 2 ^ 64 - 1
+  count : m.count ≡ 0
+
+twice_ends : Ends r0 refused_twice Twice
+twice_ends =
+    ends_refused r0 last_turn (last_turn ∷ []) Twice r0_refused (λ e1 a1.
+    ends_refused r0 last_turn [] (λ es. Twice (e1 ∷ es)) r0_refused (λ e2 a2. ends_here r0 (λ es. Twice (e1 ∷ e2 ∷ es)) (record {
+      e1 = e1;
+      e2 = e2;
+      is = refl;
+      first = refused_at r0 last_turn e1 r0_refused a1;
+      second = refused_at r0 last_turn e2 r0_refused a2;
+      pc = refl;
+      x31 = n0_high.x31;
+      count = refl;
+    })))
+
+twice_end : (es : List Event) (pc' : ℕ) (rb' : RegisterBytes) → History (2 ^ 64 - 1) ones refused_twice es pc' rb'
+    → (pc' ≡ 0xFFFFFFFFFFFFFFFF) × (read 8 rb' (8 * 31) ≡ 2 ^ 64 - 1) × (since 0 es ≡ 0)
+twice_end es pc' rb' h = (
+  sym q.1 ∙ a.at_pc ∙ k.pc,
+  ap (λ (b : RegisterBytes). read 8 b (8 * 31)) (sym q.2) ∙ a.at_slots 31 (omega arith) ∙ k.x31,
+  ap (since 0) (sym q.0) ∙ a.at_count ∙ k.count,
+)
+  where
+    a : Agrees (2 ^ 64 - 1) ones refused_twice
+    a = twice_agrees
+
+    q : (a.events ≡ es) × (a.pc' ≡ pc') × (a.rb' ≡ rb')
+    q = a.only es pc' rb' h
+
+    k : Twice a.events (after (2 ^ 64 - 1) ones refused_twice a.events)
+    k = twice_ends _ _ a.events _ _ a.history a.along

@@ -8,7 +8,8 @@ use Rattle.agreement.specs.Statement.Machine.{Event, History, RegisterBytes, Tur
 use Rattle.agreement.specs.X86.Form.{RAX, RDX, RSP}
 use Rattle.agreement.specs.X86.Memory.{at, read}
 use Rattle.agreement.specs.X86.Step.{all}
-use Rattle.agreement.proofs.Checks.Jumping.{Jumps, all_jump, jump_meets, jump_pc, jump_reads, jump_taken, jump_turn, jumps_at, jumps_lem, sites, sites_jump}
+use Rattle.agreement.proofs.Checks.Alone.{Alone, addresses, alone, none}
+use Rattle.agreement.proofs.Checks.Jumping.{Jumps, all_jump, jump_meets, jump_pc, jump_reads, jump_taken, jump_turn, jumps_at, lone_site, jumps_lem, sites, sites_jump}
 use Rattle.agreement.proofs.Checks.Sites.{Site, both}
 use Rattle.agreement.proofs.Theorem.Agreement.{agreement, x0_at_start}
 use Rattle.agreement.proofs.Theorem.AlongTheRun.{Ends, Met, ends_here, ends_plain, met, met_plain}
@@ -36,10 +37,10 @@ unfoldable pub after_jumps : GuestState → List Site → GuestState
 after_jumps m [] = m
 after_jumps m (s ∷ ss) = after_jumps (further m) ss
 
-after_one : (s : Site) (m : GuestState) → Jumps s → m.pc ≡ jump_pc → after_plain (jump_turn s) m ≡ further m
+pub after_one : (s : Site) (m : GuestState) → Jumps s → m.pc ≡ jump_pc → after_plain (jump_turn s) m ≡ further m
 after_one s m j e = rw (jump_reads s m j e)
 
-jump_stops : (s : Site) (m : GuestState) → Jumps s → m.pc ≡ jump_pc → (read_as (jump_turn s) m).stop ≡ plain
+pub jump_stops : (s : Site) (m : GuestState) → Jumps s → m.pc ≡ jump_pc → (read_as (jump_turn s) m).stop ≡ plain
 jump_stops s m j e = ap (λ (q : Read). q.stop) (jump_reads s m j e)
 
 pub jumps_met : (ss : List Site) (ts : List Turn) (m : GuestState) → all_jump ss ≡ true → m.pc ≡ jump_pc
@@ -161,13 +162,38 @@ jumped rb z es pc' rb' h = by
     }
 
 -- from registers that are all 2^64 - 1 but for x0, in bytes that are not below 256: a second history of the list ends with these numbers
-abbrev ones : RegisterBytes
+abbrev pub ones : RegisterBytes
 ones i = cond (ltb i 8) 256 511
+
+pub ones_x0 : read 8 ones 0 ≡ 0
+unfolding read
+ones_x0 = refl
 
 ones_jumped : (es : List Event) (pc' : ℕ) (rb' : RegisterBytes) → History jump_pc ones jumping es pc' rb'
     → (pc' ≡ 0xFFFFFFFFFFFFFFFE) × (read 8 rb' (8 * 31) ≡ 0xFFFFFFFFFFFFFFFF) × (read 8 rb' (8 * 30) ≡ 0xFFFFFFFFFFFFFFFF) × (read 8 rb' 0 ≡ 0)
     × (since 0 es ≡ 13)
 unfolding read
 ones_jumped es pc' rb' h =
-    let j = jumped ones refl es pc' rb' h in
+    let j = jumped ones ones_x0 es pc' rb' h in
     (j.pc, j.slots 31 (omega arith), j.slots 30 (omega arith), j.slots 0 (omega arith), j.count)
+
+-- 4. What the first of them leaves alone, nothing standing near what it may write
+
+record LoneSays (es : List Event) : Type 0 where
+  v : Visit
+  left : Alone addresses v.entry.mem v.exit.mem v.log
+
+lone_none : none (own (jump_turn lone_site)) addresses ≡ true
+unfolding none own addresses
+lone_none = refl
+
+lone_says : (x : Registers) (es : List Event) → EachSays x sites es → LoneSays es
+unfolding EachSays sites
+lone_says x [] h = absurd h
+lone_says x (e ∷ es) h =
+    let v : Visit = h.0.1.was.v in
+    let j : JumpSays lone_site x h.0.1.was.pc h.0.1.was.b.count v = h.0.2 in
+    record { v = v; left = alone (own (jump_turn lone_site)) addresses v.entry.mem v.exit.mem v.log lone_none j.rest j.log }
+
+lone : LoneSays (jumping_agrees ones ones_x0).events
+lone = lone_says _ _ (jumped ones ones_x0 _ _ _ (jumping_agrees ones ones_x0).history).each

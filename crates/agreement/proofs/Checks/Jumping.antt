@@ -61,7 +61,7 @@ jumps_lem s h =
 
 -- 2. What its turn comes to, whatever the limit
 
-some_limit : (n : ℕ) → n ≢ 0 → min n 64 ≡ suc (min n 64 - 1)
+pub some_limit : (n : ℕ) → n ≢ 0 → min n 64 ≡ suc (min n 64 - 1)
 some_limit n h = omega (arith, h)
 
 reads_once : (k : ℕ) (x : Registers) → reading (suc k) jump_pc (run_at jump_code jump_pc 2) x ≡ jump x jump_pc

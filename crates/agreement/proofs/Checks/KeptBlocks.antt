@@ -19,6 +19,7 @@ use Rattle.agreement.proofs.Checks.Example.{leaves, turn_of, zeros}
 use Rattle.agreement.proofs.Checks.ExampleStates.{reads_a_turn}
 use Rattle.agreement.proofs.Checks.PremisesMet.{Allowed, turn_of_meets}
 use Rattle.agreement.proofs.Laws.Runs.{held}
+use Rattle.agreement.proofs.Theorem.Agreement.{x0_at_start}
 use Rattle.agreement.proofs.Theorem.AlongTheRun.{MeetsAt, x0_of}
 use Rattle.agreement.proofs.Theorem.Consequences.{WentHelped, WentPlainly, after_helper, after_helper_lem, after_plain, after_plain_lem, after_refused, read_as}
 use Rattle.agreement.proofs.Theorem.Determined.{turned_once}
@@ -104,7 +105,7 @@ met_now (k ∷ ks) m rb low sl z h = ((a.typed, a.unchanged, enter, λ e pc' rb'
         subst (λ (x : RegisterBytes). Asked pc' x ks) q.bytes (subst (λ (x : ℕ). Asked x l.rb' ks) q.pcs p)
 
 -- a reply's span; none of a refusal, which the first two turns do not have
-abbrev span_of : Reply → ℕ
+abbrev pub span_of : Reply → ℕ
 span_of (block b) = b.span
 span_of (refusal r) = 0
 
@@ -223,20 +224,23 @@ three_met = (first_meets, first_current, λ e pc' rb rb' h w. rw (after_plain_le
           rw c.turned (third_met c.call.inside),
     )
 
-pub asked : Asked 0x80000000 zeros three_kept
-unfolding read
-asked = met_now three_kept n0 zeros (omega arith) (λ r k. refl) refl three_met
+-- the theorem on kept blocks, whatever the register bytes
+pub applied_now : (pc : ℕ) (rb : RegisterBytes) (ks : List Kept) → pc < 2 ^ 64 → read 8 rb 0 ≡ 0 → MetNow (start pc rb) ks → AgreesNow pc rb ks
+applied_now pc rb ks low z h = by agreement_of_kept
+  where
+    asked : Asked pc rb ks
+    asked = met_now ks (start pc rb) rb low (λ r k. refl) (x0_at_start pc rb z) h
+
+    by : AgreementOfKept → AgreesNow pc rb ks
+    by a = unfold AgreementOfKept in a pc rb ks (omega (arith, low)) z asked.0 asked.1
 
 pub three : AgreesNow 0x80000000 zeros three_kept
-three = by agreement_of_kept
-  where
-    by : AgreementOfKept → AgreesNow 0x80000000 zeros three_kept
-    by a = unfold AgreementOfKept in a 0x80000000 zeros three_kept (omega arith) (unfold read in refl) asked.0 asked.1
+three = applied_now 0x80000000 zeros three_kept (omega arith) (unfold read in refl) three_met
 
 -- 3. What it says of the code as it is now: x1 becomes 5 and nothing more is read; then the halfword's helper is called, and goes on; then
 -- the turn is refused
 
-reads_as : (t : Turn) (e : Event) (m : GuestState) → read_turn (feed t e) m ≡ read_as t m
+pub reads_as : (t : Turn) (e : Event) (m : GuestState) → read_turn (feed t e) m ≡ read_as t m
 unfolding feed feed_of
 reads_as t (rejected pc r) m = refl
 reads_as t (visited pc n v) m = refl
