@@ -86,7 +86,7 @@ pub last_meets : MeetsAt last_turn (2 ^ 64 - 1)
 unfolding translate run_at
 last_meets = record {
   typed = record { helper16 = omega arith; helper_mem = omega arith; others = λ k h. omega (arith, h) };
-  unchanged = refl;
+  unchanged = λ r. refl;
   enterable = λ b rb z e. absurd (let o : ◌≡◌ {A = ℕ} 0 1 = cc in omega arith);
 }
 

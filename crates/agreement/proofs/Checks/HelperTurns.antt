@@ -18,7 +18,7 @@ use Rattle.agreement.specs.X86.Form.{Instr.call_rax}
 use Rattle.agreement.specs.X86.Memory.{read}
 use Rattle.agreement.specs.X86.State.{State}
 use Rattle.agreement.proofs.Checks.BoldHelpers.{bold, bold_keeps, overrun, wild, wild_is}
-use Rattle.agreement.proofs.Checks.Cases.{words}
+use Rattle.agreement.specs.Cases.{words}
 use Rattle.agreement.proofs.Checks.CasesHold.{immediates, translations}
 use Rattle.agreement.proofs.Checks.Example.{range}
 use Rattle.agreement.proofs.Checks.ExampleStates.{reads_a_turn}
@@ -157,7 +157,7 @@ turn_meets : (s : Site) (g : Code) (hs : List ℕ) (good : State → Bool) (rax 
     → MeetsAt (turn_at s g hs (wild good s rax)) jump_pc
 turn_meets s g hs good rax f l un long x0 ok = record {
   typed = record { helper16 = omega arith; helper_mem = omega arith; others = λ k h. omega (arith, h) };
-  unchanged = un;
+  unchanged = λ r. un;
   enterable = λ b rb z e. record {
     layout = laid_out s g hs (wild good s rax) (length b.code) f (long b e);
     helper = λ u a k ws xs p c.

@@ -15,7 +15,7 @@ use Rattle.agreement.specs.X86.Encode.{bytes}
 use Rattle.agreement.specs.X86.Form.{Instr.call_rax}
 use Rattle.agreement.specs.X86.Memory.{read}
 use Rattle.agreement.specs.X86.State.{State}
-use Rattle.agreement.proofs.Checks.Cases.{words}
+use Rattle.agreement.specs.Cases.{words}
 use Rattle.agreement.proofs.Checks.CasesHold.{immediates, translations}
 use Rattle.agreement.proofs.Checks.ExampleStates.{reads_a_turn}
 use Rattle.agreement.proofs.Checks.OneCall.{Called, CalledAs, called_as, tidy}
@@ -115,7 +115,7 @@ no_call s j rb z b e u a k ws xs g c = not_called _ _ _ _ u a w.v.call stops w.s
 pub jump_meets : (s : Site) → Jumps s → MeetsAt (jump_turn s) jump_pc
 jump_meets s j = record {
   typed = record { helper16 = omega arith; helper_mem = omega arith; others = λ k h. omega (arith, h) };
-  unchanged = unchanged;
+  unchanged = λ r. unchanged;
   enterable = λ b rb z e. record {
     layout = laid_out s jump_code jump_run (λ u. u) (length b.code) j.fit (jump_long s j b e);
     helper = λ u a k ws xs g c. absurd (no_call s j rb z b e u a k ws xs g c);

@@ -9,11 +9,11 @@ use Rattle.agreement.specs.Riscv.Run.{GuestState, Read, Stop.called, jump, manua
 use Rattle.agreement.specs.Statement.Agreement.{Along, after, feed, is_refused, start}
 use Rattle.agreement.specs.Statement.Kept.{AgreesNow, AlongNow, Current, Kept, ReadsAlike, feed_now, feeds_now, refuses_now, turns}
 use Rattle.agreement.specs.Statement.Machine.{Event, History, History.then, RegisterBytes, Turn, reply}
-use Rattle.agreement.specs.Statement.Premises.{Unchanged}
+use Rattle.agreement.specs.Statement.Premises.{Unchanged, rests_on_code}
 use Rattle.agreement.specs.Translation.Replies.{Block, Refusal, Reply.block, Reply.refusal, block_of, translate, walked}
 use Rattle.agreement.specs.Translation.Walk.{walk}
 use Rattle.agreement.specs.X86.State.{State}
-use Rattle.agreement.proofs.Checks.Cases.{words}
+use Rattle.agreement.specs.Cases.{words}
 use Rattle.agreement.proofs.Checks.CasesHold.{immediates, translations}
 use Rattle.agreement.proofs.Checks.HelperList.{Sixteen, after_half, after_mem, half_called, last_meets, last_refused, last_turn, mem_called, n0, n1, n2, n2_high}
 use Rattle.agreement.proofs.Checks.HelperList.{sixteen, sixteen_ends, three, to_n0}
@@ -66,6 +66,9 @@ jump_reply : (s : Site) → Jumps s → reply (jump_turn s) jump_pc ≡ block (b
 unfolding immediates translations words
 jump_reply s j = rw (eqb_no s.limit 0 j.limit, translate) refl
 
+jump_rests : (s : Site) → Jumps s → rests_on_code (reply (jump_turn s) jump_pc) ≡ true
+jump_rests s j = rw (jump_reply s j)
+
 span_once : (k : ℕ) → (walk (suc k) jump_pc jump_run).span ≡ 4
 unfolding immediates translations words
 span_once k = refl
@@ -87,7 +90,7 @@ jump_current : (s : Site) → Jumps s → Current (kept_jump s) jump_pc
 jump_current s j = record {
   spanned = λ b e. rw (jump_span s j b e) jump_same;
   fetched = λ b e. rw (jump_span s j b e) (omega arith);
-  refused = λ r e. absurd (let z : ◌≡◌ (refusal r) (block _) = sym e ∙ jump_reply s j in let o : ◌≡◌ {A = ℕ} 0 1 = cc in omega arith);
+  refused = λ r e c. absurd (let z : ◌≡◌ (refusal r) (block _) = sym e ∙ jump_reply s j in let o : ◌≡◌ {A = ℕ} 0 1 = cc in omega arith);
 }
 
 mem_span : (b : Block) → reply mem_turn jump_pc ≡ block b → b.span ≡ 8
@@ -109,7 +112,7 @@ unfolding translations words
 mem_current = record {
   spanned = λ b e. rw (mem_span b e) mem_same;
   fetched = λ b e. rw (mem_span b e) (omega arith);
-  refused = λ r e. absurd (let z : ◌≡◌ {A = ℕ} 0 1 = cc in omega arith);
+  refused = λ r e c. absurd (let z : ◌≡◌ {A = ℕ} 0 1 = cc in omega arith);
 }
 
 half_span : (b : Block) → reply half_turn jump_pc ≡ block b → b.span ≡ 2
@@ -128,7 +131,7 @@ unfolding translations
 half_current = record {
   spanned = λ b e. rw (half_span b e) half_same;
   fetched = λ b e. rw (half_span b e) (omega arith);
-  refused = λ r e. absurd (let z : ◌≡◌ {A = ℕ} 0 1 = cc in omega arith);
+  refused = λ r e c. absurd (let z : ◌≡◌ {A = ℕ} 0 1 = cc in omega arith);
 }
 
 last_current : Current kept_last (2 ^ 64 - 1)
@@ -136,7 +139,7 @@ unfolding translations run_at
 last_current = record {
   spanned = λ b e. absurd (let z : ◌≡◌ {A = ℕ} 0 1 = cc in omega arith);
   fetched = λ b e. absurd (let z : ◌≡◌ {A = ℕ} 0 1 = cc in omega arith);
-  refused = λ r e. refl;
+  refused = λ r e c. refl;
 }
 
 -- a turn with a helper, entered where the theorem says
@@ -180,9 +183,9 @@ sixteen_now =
     (jumps_met sites kept_three (start jump_pc ones) sites_jump refl (λ n e. rw (e ∙ to_n0) three_met))
 
 -- the agreement itself says nothing of them
-changed : (s : Site) → Unchanged (recoded (jump_turn s) (held jump_pc (jump_run ++ behind)) 4) jump_pc → ⊥
+changed : (s : Site) → Jumps s → Unchanged (recoded (jump_turn s) (held jump_pc (jump_run ++ behind)) 4) jump_pc → ⊥
 unfolding words run_at
-changed s e = let z = ap length e in let o : ◌≡◌ {A = ℕ} 2 4 = z in omega arith
+changed s j u = let e = ap length (u (jump_rests s j)) in let o : ◌≡◌ {A = ℕ} 2 4 = e in omega arith
 
 -- 3. What it says of each of the thirteen, and of the end
 
@@ -203,7 +206,7 @@ unfolding all_jump kept_jumps turns Along AlongNow EachNow
 each_now [] ks m es c p h a n = tt
 each_now (s ∷ ss) ks m [] c p h a n = elim h [ ]
 each_now (s ∷ ss) ks m (e ∷ es) c p (then h hs) a n = (
-  record { taken = n.0.refuses ∙ jump_taken s m j p; reads = n.0.reads ∙ reads_as (jump_turn s) e m ∙ jump_reads s m j p; goes = g },
+  record { taken = n.0.refuses ∙ jump_taken s m j p; reads = n.0.reads rests ∙ reads_as (jump_turn s) e m ∙ jump_reads s m j p; goes = g },
   each_now ss ks (further m) es q.1 refl hs (rw z at a.1) (rw g at n.1),
 )
   where
@@ -212,6 +215,9 @@ each_now (s ∷ ss) ks m (e ∷ es) c p (then h hs) a n = (
 
     j : Jumps s
     j = jumps_lem s q.0
+
+    rests : rests_on_code (reply (jump_turn s) m.pc) ≡ true
+    rests = rw p (jump_rests s j)
 
     z : turn (feed (jump_turn s) e) m ≡ further m
     z = (after_plain_lem m (jump_taken s m j p) (jump_stops s m j p) h a.0).turned ∙ after_one s m j p

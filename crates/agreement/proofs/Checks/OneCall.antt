@@ -121,7 +121,7 @@ called_as s g hs h pc rb b u a k ws xs f low z un long e g' c = go l.turned l.at
     }
 
     l : Led t (start pc rb) rb
-    l = led t (start pc rb) rb (record { helper16 = omega arith; helper_mem = omega arith; others = λ k h. omega arith }) un en low
+    l = led t (start pc rb) rb (record { helper16 = omega arith; helper_mem = omega arith; others = λ k h. omega arith }) (λ r. un) en low
         (λ r h. refl) (x0_at_start pc rb z)
 
     go : {x : Event} {pc' : ℕ} {rb' : RegisterBytes} → Turned pc rb t x pc' rb' → At (start pc rb) t x → CalledAs s g hs pc rb b u a

@@ -94,7 +94,7 @@ meets : (limit room pc : ℕ) → rests_on_code (reply (turn_with limit addi now
 meets limit room pc n = record {
   typed = record { helper16 = omega arith; helper_mem = omega arith; others = λ k h. omega arith };
   unchanged = λ r. not_both (sym n ∙ r);
-  enterable = λ b rb e. absurd (not_a_block (turn_with limit addi nowhere room) pc n b e);
+  enterable = λ b rb x0 e. absurd (not_a_block (turn_with limit addi nowhere room) pc n b e);
 }
 
 limit_meets : MeetsAt limit_turn 0x80000000
