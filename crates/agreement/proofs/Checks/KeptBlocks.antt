@@ -234,6 +234,10 @@ applied_now pc rb ks low z h = by agreement_of_kept
     by : AgreementOfKept → AgreesNow pc rb ks
     by a = unfold AgreementOfKept in a pc rb ks (omega (arith, low)) z asked.0 asked.1
 
+pub asked : Asked 0x80000000 zeros three_kept
+unfolding read
+asked = met_now three_kept n0 zeros (omega arith) (λ r k. refl) refl three_met
+
 pub three : AgreesNow 0x80000000 zeros three_kept
 three = applied_now 0x80000000 zeros three_kept (omega arith) (unfold read in refl) three_met
 
