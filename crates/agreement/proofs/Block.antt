@@ -1,3 +1,4 @@
 pub mod Frame
 pub mod Stages
 pub mod EntryToReturn
+pub mod Length

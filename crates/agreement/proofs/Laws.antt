@@ -13,6 +13,5 @@ pub mod Expanding
 pub mod Needed
 pub mod Runs
 pub mod Leftover
-pub mod Length
 pub mod Spans
 pub mod Output

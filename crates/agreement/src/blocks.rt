@@ -10,7 +10,7 @@ pub fn outputs_block()
 {}
 
 // No block is shorter than 67 or longer than 4,099 bytes.
-#[tactic(auto, using(crate::proofs::Laws::Length::lengths))]
+#[tactic(auto, using(crate::proofs::Block::Length::lengths))]
 pub fn lengths()
     ensures { Lengths }
 {}

@@ -7,7 +7,7 @@ use Rattle.agreement.specs.Translation.Replies.{Block, Reply, First, first, by_f
 use Rattle.agreement.specs.Translation.Replies.Reply.{block, refusal}
 use Rattle.agreement.specs.Translation.Replies.Refusal.{limit_zero, odd_start, output_short}
 use Rattle.agreement.specs.Translation.Replies.First.{begins, lacks, untaken}
-use Rattle.agreement.proofs.Laws.Length.{block_length}
+use Rattle.agreement.proofs.Block.Length.{block_length}
 use Rattle.emitter.proofs.WriteLaws.{parts}
 use Rattle.block.specs.Answers.{Answer, Answers, Compiles, Fits}
 use Rattle.block.specs.First.{refused}

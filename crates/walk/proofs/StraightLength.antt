@@ -4,7 +4,7 @@ use Rattle.agreement.specs.Riscv.Instruction.{Instruction}
 use Rattle.agreement.specs.Riscv.Instruction.Instruction.{op, op_imm, branch, access, unmodelled, LUI, AUIPC, JAL, JALR, FENCE, FENCE_I, other}
 use Rattle.agreement.specs.X86.Encode.{bytes}
 use Rattle.agreement.specs.Translation.Decode32.{rd, rs1, rs2, imm32, shamt, shamt_w, imm_u, wrapping_add}
-use Rattle.agreement.proofs.Laws.Length.{len_op, len_imm, len_const}
+use Rattle.agreement.proofs.Block.Length.{len_op, len_imm, len_const}
 use Rattle.words.specs.Word.{word_as}
 use Rattle.words.specs.declared.X64EmitFlow.TheVariants.{Continue}
 

@@ -5,8 +5,8 @@ use Rattle.agreement.specs.X86.Encode.{bytes}
 use Rattle.agreement.specs.Translation.Emit.{opening}
 use Rattle.agreement.specs.Translation.Walk.{walk, before, End.goes_on, End.jumped, End.calls}
 use Rattle.agreement.specs.Translation.Walk as Translation
-use Rattle.agreement.proofs.Laws.Length.{sized}
-use Rattle.agreement.proofs.Laws.Length as Length
+use Rattle.agreement.proofs.Block.Length.{sized}
+use Rattle.agreement.proofs.Block.Length as Length
 use Rattle.emitter.specs.Written.{Writes, HasRoom}
 use Rattle.emitter.specs.declared.X64Emitter.{X64Emitter}
 use Rattle.emitter.proofs.WriteLaws.{none}

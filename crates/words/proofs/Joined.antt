@@ -2,7 +2,7 @@
 use Rattle.std.proofs.Common.{◌≡◌, false, cond, ℕ, eqb, List, [], ◌++◌, sym, ◌∙◌, subst}
 use Rattle.agreement.specs.X86.Form.{Instr}
 use Rattle.agreement.specs.X86.Encode.{bytes}
-use Rattle.agreement.proofs.Host.Straight.{bytes-append}
+use Rattle.agreement.proofs.Codec.Joined.{bytes-append}
 use Rattle.emitter.specs.declared.X64Emitter.{X64Emitter}
 use Rattle.emitter.specs.Written.{Writes}
 use Rattle.emitter.proofs.WriteLaws.{◌then◌}

@@ -18,7 +18,8 @@ use Rattle.agreement.specs.X86.Step.{next, past, step}
 use Rattle.agreement.proofs.Block.Stages.{Calls, Entry, Exit, Inside, Mid, Place, Returned, Way, begin, call_step, called_at}
 use Rattle.agreement.proofs.Block.Stages.{came_back, go_on, leave, way_append}
 use Rattle.agreement.proofs.Host.Fetching.{fetch, one}
-use Rattle.agreement.proofs.Host.Straight.{Fine, append-nil, bytes-append, run}
+use Rattle.agreement.proofs.Codec.Joined.{bytes-append}
+use Rattle.agreement.proofs.Host.Straight.{Fine, append-nil, run}
 use Rattle.agreement.proofs.Laws.Tests.{leb_no, of_true}
 use Rattle.agreement.proofs.Words.Fit.{Fit, fit_nil, leads_straight}
 use Rattle.agreement.proofs.Words.Simulation.{Agree, Next}

@@ -1,5 +1,5 @@
 -- The P cases of document 01 hold of the definitions, by computing their one test.
-use Rattle.std.proofs.Common.{◌≡◌, refl, true}
+use Rattle.std.proofs.Common.{◌≡◌, refl}
 use Rattle.agreement.specs.Riscv.Immediates as Manual
 use Rattle.agreement.specs.Translation.Decode16 as Decode16
 use Rattle.agreement.specs.Translation.Decode32 as Decode32

@@ -15,7 +15,7 @@ use Rattle.agreement.proofs.Checks.Example.{plain_turn, range, refused_turn, thr
 use Rattle.agreement.proofs.Checks.ExampleStates.{after_three, fifth_refused, first_refused_lem, fourth_calls, fourth_taken, m0, m2, m3}
 use Rattle.agreement.proofs.Checks.ExampleStates.{second_calls, second_taken, third_plain, third_taken}
 use Rattle.agreement.proofs.Host.Memory.{read-write, write_out}
-use Rattle.agreement.proofs.Laws.Length.{lengths}
+use Rattle.agreement.proofs.Block.Length.{lengths}
 use Rattle.agreement.proofs.Theorem.Agreement.{agreement}
 use Rattle.agreement.proofs.Theorem.Consequences.{after_helper}
 use Rattle.agreement.proofs.Theorem.OneTurn.{between, or_left, or_right}

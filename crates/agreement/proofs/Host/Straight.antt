@@ -1,5 +1,5 @@
 -- Running a list of straight instructions, and what the log of a run says.
-use Rattle.std.proofs.Common.{Bool, false, true, List, [], ◌++◌, ◌∷◌, append_assoc, ◌≢◌, ◌∙◌, ◌≡◌, ap, refl, subst, sym, ◌+◌, ◌<◌, ◌^◌, suc}
+use Rattle.std.proofs.Common.{Bool, false, true, List, [], ◌++◌, ◌∷◌, append_assoc, ◌≢◌, ◌∙◌, ◌≡◌, ap, refl, subst, ◌+◌, ◌<◌, ◌^◌, suc}
 use Rattle.std.specs.Prelude.{Option, None, Some}
 use Rattle.std.proofs.Common.{zero, ℕ, arith, T, length, length-append}
 use Rattle.agreement.specs.X86.Encode.{bytes, encode}
@@ -227,10 +227,6 @@ pub fine_append : (xs ys : List Instr) → Fine xs → Fine ys → Fine (xs ++ y
 unfolding Fine
 fine_append [] ys p q = q
 fine_append (x ∷ xs) ys p q = (p.0, p.1, fine_append xs ys p.2 q)
-
-pub bytes-append : (xs ys : List Instr) → bytes (xs ++ ys) ≡ bytes xs ++ bytes ys
-bytes-append [] ys = refl
-bytes-append (x ∷ xs) ys = rw (bytes-append xs ys) (sym (append_assoc (encode x) (bytes xs) (bytes ys)))
 
 pub append-nil : (xs : List ℕ) → xs ++ [] ≡ xs
 append-nil [] = refl

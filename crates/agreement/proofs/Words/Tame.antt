@@ -15,7 +15,8 @@ use Rattle.agreement.specs.X86.State.{Flags, Permissions, State, set}
 use Rattle.agreement.specs.X86.Step.{Goes, Goes.done, Goes.more, all, past}
 use Rattle.agreement.proofs.Host.Fetching.{Holds, one, reads, writes}
 use Rattle.agreement.proofs.Host.Memory.{write_out}
-use Rattle.agreement.proofs.Host.Straight.{AllOk, all_append, all-span, bytes-append, ok_right, stepped}
+use Rattle.agreement.proofs.Codec.Joined.{bytes-append}
+use Rattle.agreement.proofs.Host.Straight.{AllOk, all_append, all-span, ok_right, stepped}
 use Rattle.agreement.proofs.Host.Paths.{Path, Path.arrived, Path.onward}
 use Rattle.agreement.proofs.Laws.Tests.{leb_no}
 

@@ -1,11 +1,11 @@
 -- The laws of blocks, each taken at its bounds: an output that is as long as the block, long runs, any start, limit, helpers and room, and each
 -- bound as it is stated.
-use Rattle.std.proofs.Common.{List, [], ◌∷◌, ◌≡◌, refl, drop, length, replicate, take, suc, zero, ◌+◌, ◌-◌, ◌*◌, ◌%◌, ◌^◌, ◌<◌, ◌≤◌, ℕ, arith}
+use Rattle.std.proofs.Common.{List, [], ◌∷◌, ◌≡◌, drop, length, replicate, take, suc, zero, ◌+◌, ◌*◌, ◌%◌, ◌^◌, ◌≤◌, ℕ, arith}
 use Rattle.agreement.specs.Cases.{copies}
 use Rattle.agreement.specs.Laws.{BothReached, Halfwords, LeftInOutput, Lengths, OutputsBlock, Reaches, ReachesSpan, Spans, SpansOf, SpansReached}
 use Rattle.agreement.specs.Translation.Replies.{Block, Reply.block, output_after, translate}
 use Rattle.agreement.proofs.Checks.Reached.{both_reached, spans_reached}
-use Rattle.agreement.proofs.Laws.Length.{lengths}
+use Rattle.agreement.proofs.Block.Length.{lengths}
 use Rattle.agreement.proofs.Laws.Output.{outputs_block}
 use Rattle.agreement.proofs.Theorem.Kept.{spans}
 

@@ -1,8 +1,7 @@
 -- The laws of runs, each taken at its bounds: the last address, a run longer than a turn reads, the longest run that any code has, codes that
 -- differ just before and just behind the run and between its halfwords.
-use Rattle.std.proofs.Common.{cond, List, [], ◌∷◌, ◌++◌, ◌≡◌, ◌≢◌, ap, refl, replicate, eqb, length, min, suc, zero, ◌+◌, ◌-◌, ◌*◌, ◌%◌, ◌^◌, ◌<◌, ◌≤◌, ℕ, arith}
+use Rattle.std.proofs.Common.{cond, List, [], ◌∷◌, ◌≡◌, ap, refl, eqb, length, suc, zero, ◌+◌, ◌-◌, ◌*◌, ◌%◌, ◌^◌, ◌<◌, ℕ, arith}
 use Rattle.std.specs.Prelude.{Some}
-use Rattle.agreement.specs.Common.{most_steps}
 use Rattle.agreement.specs.Riscv.Code.{Code, run_at}
 use Rattle.agreement.specs.Cases.{copies, words}
 use Rattle.agreement.specs.Laws.{Halfwords, Held, NeedsNoMore, RunsAlike, RunsHeld}

@@ -25,7 +25,7 @@ use Rattle.agreement.specs.X86.Encode.{bytes}
 use Rattle.agreement.specs.X86.Form.{Instr, R10, R11, RAX, RBX, RDX}
 use Rattle.agreement.specs.X86.Form.Alu.{add, and}
 use Rattle.agreement.specs.X86.Form.Instr.{alu_imm32, call_rax, mov, mov_imm64, ret, store}
-use Rattle.agreement.proofs.Host.Straight.{bytes-append}
+use Rattle.agreement.proofs.Codec.Joined.{bytes-append}
 use Rattle.agreement.proofs.Laws.Leftover.{leftover_by}
 use Rattle.agreement.specs.Translation.Decode32 as Decode32
 use Rattle.agreement.specs.Translation.Decode16.{expand}
