@@ -125,7 +125,8 @@ cases =
     ++ dump 34 0x4C8B9308000000_4C8B9B10000000_48B80400008000000000_48BA0100000000000000))
     -- 0x4020C1B3 first: number 4
     ∷ translation 0x80000000 64 (words (0x4020C1B3 ∷ [])) 4 (0x4020C1B3 ∷ []) []
-    -- halfword 0x0001 (C.NOP): 81 bytes, count 1, span 2, RAX gets 0x80000002; behind 0x00500093: 102 bytes, count 2, span 6 (document 02, Q-7)
+    -- halfword 0x0001 (C.NOP): 81 bytes, count 1, span 2, RAX gets 0x80000002; behind 0x00500093: 102 bytes, count 2, span 6
+    -- (document 02, Q-7)
     ∷ translation 0x80000000 64 (0x0001 ∷ []) 0 (81 ∷ 1 ∷ 2 ∷ [])
     (framed (dump 34 0x4C8B9300000000_4981C200000000_48B80200008000000000_48BA0100000000000000))
     ∷ translation 0x80000000 64 (words (0x00500093 ∷ []) ++ 0x0001 ∷ []) 0 (102 ∷ 2 ∷ 6 ∷ [])

@@ -205,8 +205,8 @@ pub record Reaches (n : ℕ) : Type 0 where
 unfoldable pub BothReached : Type 0
 BothReached = Reaches 67 × Reaches 4099
 
--- A block spans from 2 to 256 bytes of the guest's code, an even number of them, 2 to 4 for each instruction that it counts, and none that its
--- run did not have.
+-- A block spans from 2 to 256 bytes of the guest's code, an even number of them, 2 to 4 for each instruction that it counts, and none that
+-- its run did not have.
 
 pub record SpansOf (hs : List ℕ) (b : Block) : Type 0 where
   pub low : 2 ≤ b.span
@@ -220,7 +220,8 @@ unfoldable pub Spans : Type 0
 Spans = (start limit : ℕ) (hs : List ℕ) (helper16 helper_mem room : ℕ) (b : Block) → Halfwords hs
     → translate start limit hs helper16 helper_mem room ≡ block b → SpansOf hs b
 
--- both ends are reached, by a run of which nothing is left over: one halfword, and 64 words. So are the 2 and the 4 bytes for an instruction
+-- both ends are reached, by a run of which nothing is left over: one halfword, and 64 words. So are the 2 and the 4 bytes for an
+-- instruction
 
 pub record ReachesSpan (n each : ℕ) : Type 0 where
   pub start : ℕ

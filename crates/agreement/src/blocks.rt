@@ -27,7 +27,8 @@ pub fn cases_hold()
     ensures { CasesHold }
 {}
 
-// A block spans from 2 to 256 bytes, an even number of them, 2 to 4 for each instruction that it counts, and none that its run did not have.
+// A block spans from 2 to 256 bytes, an even number of them, 2 to 4 for each instruction that it counts, and none that its run did not
+// have.
 #[tactic(auto, using(crate::proofs::Theorem::Kept::spans))]
 pub fn spans()
     ensures { Spans }

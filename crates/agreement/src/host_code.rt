@@ -14,8 +14,8 @@ pub fn encodes()
     ensures { Encodes }
 {}
 
-// Where the statement's relation leads from one state to another without CALL and RET, the function that runs the model does so, with the same
-// writes.
+// Where the statement's relation leads from one state to another without CALL and RET, the function that runs the model does so, with the
+// same writes.
 #[tactic(auto, using(crate::proofs::Host::Steps::steps_alike))]
 pub fn steps_alike()
     ensures { StepsAlike }

@@ -1,4 +1,5 @@
--- What the counts say of each sort, and of all together: a statement that counts fewer halfwords, or leaves a sort open, does not serve here.
+-- What the counts say of each sort, and of all together: a statement that counts fewer halfwords, or leaves a sort open, does not serve
+-- here.
 use Rattle.std.proofs.Common.{◌≡◌, ap, ◌+◌, ◌*◌, ◌^◌, ℕ, arith}
 use Rattle.halfwords.specs.Sorts.{AllCounted, Counts, count}
 use Rattle.halfwords.proofs.Counting.{all_counted}

@@ -22,8 +22,8 @@ unfoldable pub translations : Unit {0}
 unfolding
     Decode32.word_of Decode32.opcode Decode32.rd Decode32.funct3 Decode32.rs1 Decode32.rs2 Decode32.funct7
     Decode32.imm12 Decode32.imm_hi Decode32.shamt Decode32.shamt_w Decode32.imm32
-    Decode16.match Decode16.expand_by Decode16.expand match kind_op kind_op32 kind_op_imm kind_op_imm32 kind_branch kind_load kind_store kind_fence kind_of kind
-    leftover emit walk ending instrs counted numbered first_word first by_first translate
+    Decode16.match Decode16.expand_by Decode16.expand match kind_op kind_op32 kind_op_imm kind_op_imm32 kind_branch kind_load kind_store
+    kind_fence kind_of kind leftover emit walk ending instrs counted numbered first_word first by_first translate
 translations = tt
 
 unfoldable pub tests : Unit {0}

@@ -183,7 +183,8 @@ four_ends =
     ends_plain (n3 u) new_turn [] (λ es. Four (e0 ∷ e1 ∷ e2 ∷ es)) (new_plain u).taken (new_plain u).stops (λ e3 w3.
     ends_here (after_plain new_turn (n3 u)) (λ es. Four (e0 ∷ e1 ∷ e2 ∷ e3 ∷ es)) (says e0 e1 e2 e3 u w0 w2 w3)))))
   where
-    says : (e0 e1 e2 e3 : Event) (u : State) → WentPlainly n0 old_turn e0 → WentPlainly (n2 u) fence_turn e2 → WentPlainly (n3 u) new_turn e3
+    says : (e0 e1 e2 e3 : Event) (u : State) → WentPlainly n0 old_turn e0 → WentPlainly (n2 u) fence_turn e2
+        → WentPlainly (n3 u) new_turn e3
         → Four (e0 ∷ e1 ∷ e2 ∷ e3 ∷ []) (after_plain new_turn (n3 u))
     says e0 e1 e2 e3 u w0 w2 w3 =
         let r = new_reads u in

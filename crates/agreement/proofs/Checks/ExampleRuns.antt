@@ -1,5 +1,5 @@
--- The model computes: the example's plain block, one of compressed halfwords, one that jumps over its division and one that divides, fetched, decoded and
--- executed step by step from entry to return.
+-- The model computes: the example's plain block, one of compressed halfwords, one that jumps over its division and one that divides,
+-- fetched, decoded and executed step by step from entry to return.
 use Rattle.std.proofs.Common.{false, true, List, [], ◌∷◌, ◌≡◌, refl, ◌-◌, ◌^◌, ℕ, length}
 use Rattle.std.specs.Prelude.{Option, None, Some}
 use Rattle.agreement.specs.Translation.Replies.{walked}

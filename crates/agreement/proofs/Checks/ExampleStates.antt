@@ -23,7 +23,9 @@ m0 = start first_pc zeros
 
 -- which kind of turn each is, by computing
 unfoldable pub reads_a_turn : Unit {0}
-unfolding run_at refused first_refused is_not_taken is_long taken named find_in find three_is top_is sign_extend Compressed.find expansion_by expansion if_in_line in_line reading does words feed_of leaves
+unfolding
+    run_at refused first_refused is_not_taken is_long taken named find_in find three_is top_is sign_extend
+    Compressed.find expansion_by expansion if_in_line in_line reading does words feed_of leaves
 reads_a_turn = tt
 
 pub first_refused_lem : is_refused refused_turn m0 ≡ true

@@ -1,6 +1,6 @@
--- The words that halfwords expand to, as GNU objdump and as give them: every bit of each immediate by itself, and what is reserved. That the
--- translator's expansion is this one is a theorem (Laws/Expanding); a change of both alike is noticed here. All 49,152 halfwords are compared
--- with such words outside (checks/compressed.py).
+-- The words that halfwords expand to, as GNU objdump and as give them: every bit of each immediate by itself, and what is reserved. That
+-- the translator's expansion is this one is a theorem (Laws/Expanding); a change of both alike is noticed here. All 49,152 halfwords are
+-- compared with such words outside (checks/compressed.py).
 use Rattle.std.proofs.Common.{◌≡◌, refl, Bool, true, false, ◌&&◌, List, [], ◌∷◌, ℕ, eqb}
 use Rattle.std.specs.Prelude.{Option, None, Some}
 use Rattle.agreement.specs.Riscv.Compressed.{expansion, expansion_by, find}
@@ -89,7 +89,8 @@ expansions =
     -- C.EBREAK
     ∷ 0x9002 ⇒ 0x00100073 ∷ []
 
--- 0x0000, which is illegal, and C.ADDI4SPN with immediate 0; quadrant 0, funct3 100; C.ADDIW to x0; C.ADDI16SP and C.LUI with immediate 0, x0
+-- 0x0000, which is illegal, and C.ADDI4SPN with immediate 0; quadrant 0, funct3 100; C.ADDIW to x0; C.ADDI16SP and C.LUI with immediate 0,
+-- x0
 -- too; quadrant 1, 100-1-11-1x; C.LWSP and C.LDSP to x0; C.JR of x0; the lower half of a word
 reserved : List ℕ
 reserved =

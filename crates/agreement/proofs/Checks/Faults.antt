@@ -92,7 +92,8 @@ are true (b ∷ bs) = b && are true bs
 are false (b ∷ bs) = not b && are false bs
 
 division_faults_lem : are false faulting && are true fitting ≡ true
-unfolding step did next cut fetched all decode pick only opcode1 modrm mul_div_of on_reg width_of accesses nth faults division_faults as_signed
+unfolding
+    step did next cut fetched all decode pick only opcode1 modrm mul_div_of on_reg width_of accesses nth faults division_faults as_signed
     faulting fitting are
 division_faults_lem = refl
 

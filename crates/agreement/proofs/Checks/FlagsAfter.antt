@@ -90,7 +90,8 @@ vectors =
     ∷ sets (mul_div r32 sdiv R11) 0b000000 0b111111 ∷ []
 
 vectors_pass : pass vectors ≡ true
-unfolding exec alu_flags add_flags sub_flags logic_flags shift_flags imul_flags shifted_out shift_overflow shifted even_ones ones sext nth vectors
+unfolding
+    exec alu_flags add_flags sub_flags logic_flags shift_flags imul_flags shifted_out shift_overflow shifted even_ones ones sext nth vectors
     as_signed as_bits umul_flags smul_flags
 vectors_pass = refl
 

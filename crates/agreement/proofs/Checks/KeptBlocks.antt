@@ -76,15 +76,20 @@ first_changed u = let e = u refl in let z : ◌≡◌ {A = ℕ} 0xC1B3 0x4108 = 
 unfoldable pub MetNow : GuestState → List Kept → Type 0
 MetNow m [] = Unit
 MetNow m (k ∷ ks) = MeetsAt k.turn m.pc × Current k m.pc
-    × ((e : Event) (pc' : ℕ) (rb rb' : RegisterBytes) → Turned m.pc rb k.turn e pc' rb' → At m k.turn e → MetNow (turn (feed k.turn e) m) ks)
+    × ((e : Event) (pc' : ℕ) (rb rb' : RegisterBytes) → Turned m.pc rb k.turn e pc' rb' → At m k.turn e
+    → MetNow (turn (feed k.turn e) m) ks)
 
 abbrev pub Asked : ℕ → RegisterBytes → List Kept → Type 0
 Asked pc rb ks = Premises pc rb (turns ks) × CurrentAlong pc rb ks
 
-pub met_now : (ks : List Kept) (m : GuestState) (rb : RegisterBytes) → m.pc < 2 ^ 64 → SlotsAre rb m → m.registers 0 ≡ 0 → MetNow m ks → Asked m.pc rb ks
+pub met_now : (ks : List Kept) (m : GuestState) (rb : RegisterBytes) → m.pc < 2 ^ 64 → SlotsAre rb m → m.registers 0 ≡ 0
+    → MetNow m ks → Asked m.pc rb ks
 unfolding MetNow Premises CurrentAlong turns
 met_now [] m rb low sl z h = (tt, tt)
-met_now (k ∷ ks) m rb low sl z h = ((a.typed, a.unchanged, enter, λ e pc' rb' t. (on e pc' rb' t (met_now ks)).0), (h.1, λ e pc' rb' t. (on e pc' rb' t (met_now ks)).1))
+met_now (k ∷ ks) m rb low sl z h = (
+  (a.typed, a.unchanged, enter, λ e pc' rb' t. (on e pc' rb' t (met_now ks)).0),
+  (h.1, λ e pc' rb' t. (on e pc' rb' t (met_now ks)).1),
+)
   where
     a : MeetsAt k.turn m.pc
     a = h.0
@@ -161,11 +166,13 @@ allowed = record { above = omega arith; fits = omega arith; aligned = refl }
 
 first_meets : MeetsAt first_turn 0x80000000
 first_meets =
-    turn_of_meets 0x30008 first_code first_turn.made 1 0 0 0 0x80000000 allowed (unfold words run_at in refl) (omega arith) (omega arith) (omega arith)
+    turn_of_meets 0x30008 first_code first_turn.made 1 0 0 0 0x80000000 allowed
+    (unfold words run_at in refl) (omega arith) (omega arith) (omega arith)
 
 second_meets : MeetsAt second_turn 0x80000004
 second_meets =
-    turn_of_meets 0x30008 second_code second_turn.made 10 9 0x80000006 1 0x80000004 allowed (unfold run_at in refl) (omega arith) (omega arith) (omega arith)
+    turn_of_meets 0x30008 second_code second_turn.made 10 9 0x80000006 1 0x80000004 allowed
+    (unfold run_at in refl) (omega arith) (omega arith) (omega arith)
 
 third_meets : MeetsAt third_turn 0x80000006
 third_meets =

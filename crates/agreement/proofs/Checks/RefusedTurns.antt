@@ -1,5 +1,5 @@
--- Turns that are refused whatever their code is: for a limit of 0, an odd start and an output that is too short. Their code has changed, and
--- both theorems are applied to them. Where the first word is not there or not taken the premise on code cannot be left out.
+-- Turns that are refused whatever their code is: for a limit of 0, an odd start and an output that is too short. Their code has changed,
+-- and both theorems are applied to them. Where the first word is not there or not taken the premise on code cannot be left out.
 use Rattle.std.specs.Prelude.{None}
 use Rattle.std.proofs.Common.{false, true, List, [], ◌∷◌, ◌∙◌, ◌≡◌, ap, refl, replicate, subst, sym, ◌+◌, ◌%◌, ◌<◌, ◌^◌, ℕ, arith}
 use Rattle.agreement.specs.Riscv.Code.{Code, run_at}

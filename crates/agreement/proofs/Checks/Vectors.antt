@@ -1,6 +1,6 @@
--- Further vectors of the definitions: replies, bytes and immediates as the original Rust gives them. Three things are document 02's: number 5
--- goes by 4,099 in place of 2,243, and the rest of M is taken, its bytes being what an assembler makes of the host instructions (Q-2); JALR's
--- opcode with funct3 1 to 7 is not taken (Q-6).
+-- Further vectors of the definitions: replies, bytes and immediates as the original Rust gives them. Three things are document 02's: number
+-- 5 goes by 4,099 in place of 2,243, and the rest of M is taken, its bytes being what an assembler makes of the host instructions (Q-2);
+-- JALR's opcode with funct3 1 to 7 is not taken (Q-6).
 use Rattle.std.proofs.Common.{◌≡◌, refl, Bool, true, ◌&&◌, List, [], ◌∷◌, ◌++◌, ℕ, ◌-◌, ◌^◌, length}
 use Rattle.agreement.specs.Translation.Replies.{Reply, translate}
 use Rattle.agreement.specs.Cases.{is_reply, holds, dump, framed, copies, words}
@@ -272,7 +272,8 @@ fences =
     (framed (dump 20 0x48B80000000000000000_48BA0100000000000000))
     ∷ run 0x80000000 64 (words (0x0000100F ∷ []) ++ 0x0001 ∷ []) 4099 0 (67 ∷ 1 ∷ 4 ∷ [])  -- a halfword behind
     (framed (dump 20 0x48B80400008000000000_48BA0100000000000000))
-    ∷ run 0x80000000 64 (copies 63 (words (0x01FF1EBB ∷ [])) ++ words (0x0000100F ∷ [])) 4099 0 (2209 ∷ 64 ∷ 256 ∷ [])  -- the 64th, SLLW before
+    -- the 64th, SLLW before
+    ∷ run 0x80000000 64 (copies 63 (words (0x01FF1EBB ∷ [])) ++ words (0x0000100F ∷ [])) 4099 0 (2209 ∷ 64 ∷ 256 ∷ [])
     (framed (copies 63 (dump 34 0x4C8B93F0000000_4C8B9BF8000000_4C89D9_4883E11F_41D3E2_4D63D2_4C8993E8000000)
     ++ dump 20 0x48B80001008000000000_48BA4000000000000000))
     ∷ run 0x80000000 64 (copies 64 (words (0x0000000F ∷ []))) 4099 0 (67 ∷ 64 ∷ 256 ∷ [])  -- 64 times FENCE
@@ -288,8 +289,10 @@ each_halfword =
     ∷ straight_half 0x0005 14 0x4C8B9300000000_4981C201000000  -- C.NOP 1, a hint
     ∷ straight_half 0x0502 18 0x4C8B9350000000_49C1E200_4C899350000000  -- C.SLLI x10, 0, a hint
     ∷ straight_half 0x852E 24 0x4C8B9300000000_4C8B9B58000000_4D01DA_4C899350000000  -- C.MV x10, x11
-    ∷ ending_half 0x9082 41 0x4C8B9308000000_4981C200000000_4981E2FEFFFFFF_49BB0200008000000000_4C899B08000000_4C89D0  -- C.JALR x1: the link is 2 behind
-    ∷ ending_half 0xC111 44 0x4C8B9350000000_4C8B9B00000000_4D39DA_49BB0200008000000000_48B80400008000000000_4C0F44D8_4C89D8  -- C.BEQZ x10, 4
+    -- C.JALR x1: the link is 2 behind
+    ∷ ending_half 0x9082 41 0x4C8B9308000000_4981C200000000_4981E2FEFFFFFF_49BB0200008000000000_4C899B08000000_4C89D0
+    -- C.BEQZ x10, 4
+    ∷ ending_half 0xC111 44 0x4C8B9350000000_4C8B9B00000000_4D39DA_49BB0200008000000000_48B80400008000000000_4C0F44D8_4C89D8
     ∷ straight_half 0x955A 24 0x4C8B9350000000_4C8B9BB0000000_4D01DA_4C899350000000  -- C.ADD
     ∷ straight_half 0x09A5 21 0x4C8B9398000000_4981C209000000_4C899398000000  -- C.ADDI
     ∷ straight_half 0x6169 21 0x4C8B9310000000_4981C2D0000000_4C899310000000  -- C.ADDI16SP

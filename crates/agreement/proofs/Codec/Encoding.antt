@@ -161,7 +161,8 @@ module _ (r b m : ℕ) (lr : r < 2) (lb : b < 2) where
         by : s ≡ 0x24 → ForImm W 4 bs (λ o. k (mem (8 * b + 4) o) (reg_of r m))
         by q o rest l t z =
             let rm : 8 * b + 4 ≡ rm_of b m = rw e in
-            let i : m ∷ s ∷ bs ≡ mod_mem (reg_of r m) (rm_of b m) o ++ rest = rw (q, z) (ap (λ (l : List ℕ). l ++ rest) (with_sib o two e)) in
+            let i : m ∷ s ∷ bs ≡ mod_mem (reg_of r m) (rm_of b m) o ++ rest =
+            rw (q, z) (ap (λ (l : List ℕ). l ++ rest) (with_sib o two e)) in
             rw rm (f (rm_of b m) o (reg_of r m) rest named l t i)
 
     memory_right : (bs : List ℕ) → Bytes bs → ForMemory W r b (m ∷ bs) (λ d o. k (mem d o))
@@ -428,15 +429,18 @@ module _ (w r b : ℕ) (lw : w < 2) (lr : r < 2) (lb : b < 2) where
       pick_is o 0x83 (λ e. only_is (2 * w + r) 2 (λ f. rw e (
       one_reg digit alu_of alu_imm8 r64 0x83 1 bs alus (w_one (omega arith)) (omega arith) t (λ a d v l m. (rw (byte v m), (l, m)))))) (
       pick_is o 0xD3 (λ e. only_is r 0 (λ f. rw e (
-      one_reg shift_digit shift_of (λ op d v. shift_cl (width_of w) op d) (width_of w) 0xD3 0 bs shifts refl f t (λ a d v l m. (refl, l))))) (
+      one_reg shift_digit shift_of (λ op d v. shift_cl (width_of w) op d) (width_of w) 0xD3 0 bs shifts refl f t
+      (λ a d v l m. (refl, l))))) (
       pick_is o 0xC1 (λ e. only_is r 0 (λ f. rw e (
-      one_reg shift_digit shift_of (shift_imm8 (width_of w)) (width_of w) 0xC1 1 bs shifts refl f t (λ a d v l m. (rw (byte v m), (l, m)))))) (
+      one_reg shift_digit shift_of (shift_imm8 (width_of w)) (width_of w) 0xC1 1 bs shifts refl f t
+      (λ a d v l m. (rw (byte v m), (l, m)))))) (
       pick_is o 0x63 (λ e. only_is w 1 (λ f. rw e (
       two_regs (λ s g. movsxd g s) r64 (0x63 ∷ []) bs (w_one f) t (λ s g k l. (refl, (l, k)))))) (
       pick_is o 0x0F (λ e. rw e (opcode_0f_right bs t)) (
       pick_is o 0xFF (λ e. only_is (4 * w + 2 * r + b) 0 (λ f. rw e (call_arm bs t f))) (
       pick_is o 0xF7 (λ e. only_is r 0 (λ f. rw e (
-      one_reg mul_div_digit mul_div_of (λ op d v. mul_div (width_of w) op d) (width_of w) 0xF7 0 bs mul_divs refl f t (λ a d v l m. (refl, l))))) (
+      one_reg mul_div_digit mul_div_of (λ op d v. mul_div (width_of w) op d) (width_of w) 0xF7 0 bs mul_divs refl f t
+      (λ a d v l m. (refl, l))))) (
       pick_is o 0x99 (λ e. only_is (2 * r + b) 0 (λ f. rw e (cqo_arm bs f))) (
       pick_is (o / 16) 7 (λ e. only_is (4 * w + 2 * r + b) 0 (λ f. jump_arm o bs t f e)) (
       only_is o 0xC3 (λ e. only_is (4 * w + 2 * r + b) 0 (λ f. some_right ret _ bs (refl, tt) (bare f (o ∷ bs) ∙ rw e)))))))))))))))))))

@@ -65,7 +65,8 @@ rex_len r32 r b = go (eqb (◌+◌ (4 * (r / 8)) (b / 8)) 0)
 mem_len : (r b d : ℕ) → length (mod_mem r b d) ≤ 6
 mem_len r b d = go (eqb (b % 8) 4)
   where
-    go : (t : Bool) → length (cond t ((128 + 8 * (r % 8) + 4) ∷ (32 + b % 8) ∷ bytes_of 4 d) ((128 + 8 * (r % 8) + b % 8) ∷ bytes_of 4 d)) ≤ 6
+    go : (t : Bool)
+        → length (cond t ((128 + 8 * (r % 8) + 4) ∷ (32 + b % 8) ∷ bytes_of 4 d) ((128 + 8 * (r % 8) + b % 8) ∷ bytes_of 4 d)) ≤ 6
     go true = omega (arith, len_le 4 d)
     go false = omega (arith, len_le 4 d)
 

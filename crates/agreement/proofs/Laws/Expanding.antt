@@ -152,7 +152,9 @@ module _ (h : ℕ) where
 
     addi : Same 1 0
     unfolding D.expand_by D.match C.expansion_by C.find find three_is top_is
-    addi = rw (imm_6_is, s-is, b-is, d-is) (reads _ _ 0x13 0 _ _ (omega arith) (omega arith) (omega arith) (omega arith) refl refl refl refl)
+    addi =
+        rw (imm_6_is, s-is, b-is, d-is)
+        (reads _ _ 0x13 0 _ _ (omega arith) (omega arith) (omega arith) (omega arith) refl refl refl refl)
 
     addiw : (y : Bool) → eqb (D.part h 7 5) 0 ≡ y → Same 1 1
     unfolding D.expand_by D.match C.expansion_by C.find find three_is top_is
@@ -167,15 +169,21 @@ module _ (h : ℕ) where
 
     srli : D.part h 10 2 ≡ 0 → Same 1 4
     unfolding D.expand_by D.match C.expansion_by C.find find three_is top_is
-    srli e = rw (e, s-is, b-is, r-is) (reads _ _ 0x13 5 _ 0 (omega arith) (omega arith) (omega arith) (omega arith) refl (omega arith) refl refl)
+    srli e =
+        rw (e, s-is, b-is, r-is)
+        (reads _ _ 0x13 5 _ 0 (omega arith) (omega arith) (omega arith) (omega arith) refl (omega arith) refl refl)
 
     srai : D.part h 10 2 ≡ 1 → Same 1 4
     unfolding D.expand_by D.match C.expansion_by C.find find three_is top_is
-    srai e = rw (e, s-is, b-is, r-is) (reads _ _ 0x13 5 _ 0x10 (omega arith) (omega arith) (omega arith) (omega arith) refl (omega arith) refl refl)
+    srai e =
+        rw (e, s-is, b-is, r-is)
+        (reads _ _ 0x13 5 _ 0x10 (omega arith) (omega arith) (omega arith) (omega arith) refl (omega arith) refl refl)
 
     andi : D.part h 10 2 ≡ 2 → Same 1 4
     unfolding D.expand_by D.match C.expansion_by C.find find three_is top_is
-    andi e = rw (e, imm_6_is, s-is, b-is, r-is) (reads _ _ 0x13 7 _ _ (omega arith) (omega arith) (omega arith) (omega arith) refl refl refl refl)
+    andi e =
+        rw (e, imm_6_is, s-is, b-is, r-is)
+        (reads _ _ 0x13 7 _ _ (omega arith) (omega arith) (omega arith) (omega arith) refl refl refl refl)
 
     sub : D.part h 10 2 ≡ 3 → D.part h 12 1 ≡ 0 → D.part h 5 2 ≡ 0 → Same 1 4
     unfolding D.expand_by D.match C.expansion_by C.find find three_is top_is
@@ -191,7 +199,9 @@ module _ (h : ℕ) where
 
     or : D.part h 10 2 ≡ 3 → D.part h 12 1 ≡ 0 → D.part h 5 2 ≡ 2 → Same 1 4
     unfolding D.expand_by D.match C.expansion_by C.find find three_is top_is
-    or e k l = rw (e, k, l, r-is, q-is) (reads _ _ 0x33 6 0x00 _ (omega arith) (omega arith) (omega arith) (omega arith) (omega arith) refl refl refl)
+    or e k l =
+        rw (e, k, l, r-is, q-is)
+        (reads _ _ 0x33 6 0x00 _ (omega arith) (omega arith) (omega arith) (omega arith) (omega arith) refl refl refl)
 
     and : D.part h 10 2 ≡ 3 → D.part h 12 1 ≡ 0 → D.part h 5 2 ≡ 3 → Same 1 4
     unfolding D.expand_by D.match C.expansion_by C.find find three_is top_is
@@ -255,7 +265,9 @@ module _ (h : ℕ) where
     moves_0 : D.part h 12 1 ≡ 0 → (y z : Bool) → eqb (D.part h 2 5) 0 ≡ y → eqb (D.part h 7 5) 0 ≡ z → Same 2 4
     unfolding D.expand_by D.match C.expansion_by C.find taken named find_in find three_is top_is
     moves_0 e true true k l = rw (e, k, l) reserved
-    moves_0 e true false k l = rw (e, k, l, d-is) (reads _ _ 0x67 0 _ _ (omega arith) (omega arith) (omega arith) (omega arith) refl refl refl refl)
+    moves_0 e true false k l =
+        rw (e, k, l, d-is)
+        (reads _ _ 0x67 0 _ _ (omega arith) (omega arith) (omega arith) (omega arith) refl refl refl refl)
     moves_0 e false true k l =
         rw (e, k, l, b-is, d-is)
         (reads _ _ 0x33 0 0x00 _ (omega arith) (omega arith) (omega arith) (omega arith) (omega arith) refl refl refl)
@@ -266,7 +278,9 @@ module _ (h : ℕ) where
     moves_1 : D.part h 12 1 ≡ 1 → (y z : Bool) → eqb (D.part h 2 5) 0 ≡ y → eqb (D.part h 7 5) 0 ≡ z → Same 2 4
     unfolding D.expand_by D.match C.expansion_by C.find taken named find_in find three_is top_is
     moves_1 e true true k l = rw (e, k, l) (left 0x00100073 refl)
-    moves_1 e true false k l = rw (e, k, l, d-is) (reads _ _ 0x67 0 _ _ (omega arith) (omega arith) (omega arith) (omega arith) refl refl refl refl)
+    moves_1 e true false k l =
+        rw (e, k, l, d-is)
+        (reads _ _ 0x67 0 _ _ (omega arith) (omega arith) (omega arith) (omega arith) refl refl refl refl)
     moves_1 e false true k l =
         rw (e, k, l, b-is, d-is)
         (reads _ _ 0x33 0 0x00 _ (omega arith) (omega arith) (omega arith) (omega arith) (omega arith) refl refl refl)
@@ -305,7 +319,8 @@ module _ (h : ℕ) where
     imm_b_is : (a b c d : ℕ) → D.part h 10 2 ≡ a → D.part h 5 2 ≡ b → D.part h 3 2 ≡ c → D.part h 2 1 ≡ d
         → a < 4 → b < 4 → c < 4 → d < 2 → C.imm_b h ≡ s * (2 ^ 64 - 2 ^ 8) + ((b * 2 + d) * 2 ^ 5 + (a * 4 + c) * 2)
     imm_b_is a b c d a-is b-is c-is d-is i j k l =
-        rw (s-is, a-is, b-is, c-is, d-is) (extended 8 s ((b * 2 + d) * 2 ^ 5 + (a * 4 + c) * 2) _ (omega arith) s-lt (omega arith) (omega arith))
+        rw (s-is, a-is, b-is, c-is, d-is)
+        (extended 8 s ((b * 2 + d) * 2 ^ 5 + (a * 4 + c) * 2) _ (omega arith) s-lt (omega arith) (omega arith))
 
     beqz : (a b c d : ℕ) → D.part h 10 2 ≡ a → D.part h 5 2 ≡ b → D.part h 3 2 ≡ c → D.part h 2 1 ≡ d
         → a < 4 → b < 4 → c < 4 → d < 2 → Same 1 6

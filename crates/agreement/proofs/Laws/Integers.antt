@@ -146,7 +146,8 @@ bits-cut n z = let e : 2 ^ (2 * n) ≡ 2 ^ n * 2 ^ n = squared in go z e
 
 pub upper_halves : UpperHalves
 unfolding UpperHalves
-upper_halves n z = sym (ap (λ (x : ℕ). bits_of (2 * n) z / 2 ^ n * 2 ^ n + x) (sym (bits-cut n z)) ∙ div-add-mod' (bits_of (2 * n) z) (2 ^ n))
+upper_halves n z =
+    sym (ap (λ (x : ℕ). bits_of (2 * n) z / 2 ^ n * 2 ^ n + x) (sym (bits-cut n z)) ∙ div-add-mod' (bits_of (2 * n) z) (2 ^ n))
 
 -- 5. Division
 

@@ -121,7 +121,8 @@ unfoldable Alike : ℕ → Type 0
 Alike o = (s t w f : ℕ) → f < 8 → Same o s t w f
 
 alikes : All Alike opcodes
-unfolding All Alike kind_of match kind_op kind_op32 kind_op_imm kind_op_imm32 kind_branch kind_load kind_store kind_fence find three_is top_is
+unfolding
+    All Alike kind_of match kind_op kind_op32 kind_op_imm kind_op_imm32 kind_branch kind_load kind_store kind_fence find three_is top_is
 alikes = (
   (λ s t w. eight (Same 0x73 s t w) (unchosen (eqb w 0x00000073) (eqb w 0x00100073)) refl refl refl refl refl refl refl),
   (

@@ -297,7 +297,8 @@ module _ (k : ℕ) where
   quotient-minus a h = rw (eqb_no (2 ^ suc k - 1) 0 not_zero, overflow_is a, minus_one) (go (ℕ_discrete a (2 ^ k)))
     where
       go : Dec (a ≡ 2 ^ k)
-          → cond (eqb a (half (suc k))) (half (suc k)) (bits_of (suc k) (quot_z (signed (suc k) a) (negsuc 0))) ≡ (2 ^ suc k - a) % 2 ^ suc k
+          → cond (eqb a (half (suc k))) (half (suc k)) (bits_of (suc k) (quot_z (signed (suc k) a) (negsuc 0)))
+          ≡ (2 ^ suc k - a) % 2 ^ suc k
       go (yes e) =
           let z : 2 ^ suc k - a ≡ 2 ^ k = omega (arith, twice k) in
           rw (eqb_yes a (half (suc k)) (e ∙ sym (half_is k))) (half_is k ∙ sym (rw z (mod-eq_of_lt (omega (arith, twice k, pow_pos k)))))

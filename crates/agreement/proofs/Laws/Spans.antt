@@ -47,7 +47,8 @@ unfolding first_refused
 accept_half h [] e = e
 accept_half h (u ∷ hs) e = rw (e, first_refused) refl
 
-accept_word : (h u : ℕ) (hs : List ℕ) {t : Bool} → is_long h ≡ true → is_not_taken (taken (word_of h u)) ≡ t → first_refused (h ∷ u ∷ hs) ≡ t
+accept_word : (h u : ℕ) (hs : List ℕ) {t : Bool} → is_long h ≡ true → is_not_taken (taken (word_of h u)) ≡ t
+    → first_refused (h ∷ u ∷ hs) ≡ t
 unfolding first_refused
 accept_word h u hs e t = rw (e, first_refused) t
 
@@ -92,7 +93,8 @@ long_again h u hs e k (a ∷ b ∷ l) s =
     let r : take k l ≡ take k hs = cc in
     record {
       behind = l;
-      stands = subst (λ y. Stands 2 (word_of h u) (y ∷ b ∷ l) l) p (subst (λ y. Stands 2 (word_of h u) (h ∷ y ∷ l) l) q (stands_long h u l e));
+      stands = subst (λ y. Stands 2 (word_of h u) (y ∷ b ∷ l) l) p
+          (subst (λ y. Stands 2 (word_of h u) (h ∷ y ∷ l) l) q (stands_long h u l e));
       same = r;
     }
 
@@ -179,7 +181,8 @@ module _ (n pc m w : ℕ) (hs rest : List ℕ) (low : 1 ≤ m) (high : m ≤ 2) 
 
   -- it is the last that counts
   once : (q : Walked) → counted q.end q.added ≡ 1 → q.span ≡ 2 * m → is_not_taken (taken w) ≡ false
-      → ((x : Registers) (a b : Registers → Read) → does (taken w) (2 * m) pc w x a ≡ does (taken w) (2 * m) pc w x b) → Spanning (suc n) pc hs q
+      → ((x : Registers) (a b : Registers → Read) → does (taken w) (2 * m) pc w x a ≡ does (taken w) (2 * m) pc w x b)
+      → Spanning (suc n) pc hs q
   unfolding Everywhere
   once q c s t d = record {
     halfwords = 0 + m;

@@ -150,7 +150,8 @@ module _ (k : Kept) (m : GuestState) (low : m.pc < 2 ^ 64) (un : Unchanged k.tur
       front : SameFront b hs k.turn.made
       front n is within =
           let there : n ≤ length (run_at k.turn.code m.pc k.turn.reach) = rw (← made) within in
-          front_alike k.turn.code k.now m.pc n k.turn.reach k.reach low there (omega (arith, is, current.fetched b e)) (rw is at (current.spanned b e))
+          front_alike k.turn.code k.now m.pc n k.turn.reach k.reach low there (omega (arith, is, current.fetched b e))
+          (rw is at (current.spanned b e))
           ∙ ap (take n) (sym made)
 
       reads : read_turn (feed_now k (visited m.pc b.count v)) m ≡ read_turn (feed k.turn (visited m.pc b.count v)) m

@@ -108,7 +108,8 @@ module _ (start limit : ℕ) (hs : List ℕ) (helper16 helper_mem room : ℕ) wh
   replied now un l = go (eqb limit 0) (eqb (start % 2) 1) (ltb room greatest) refl refl refl
     where
       by : eqb limit 0 ≡ false → eqb (start % 2) 1 ≡ false
-          → translate start limit hs helper16 helper_mem room ≡ by_first (first hs) room (block_of helper16 helper_mem (walked start limit hs))
+          → translate start limit hs helper16 helper_mem room
+          ≡ by_first (first hs) room (block_of helper16 helper_mem (walked start limit hs))
       by p q = unfold translate in rw (p, translate) (rw q refl)
 
       there : eqb limit 0 ≡ false → eqb (start % 2) 1 ≡ false → ltb room greatest ≡ false → hs ≡ now
@@ -158,7 +159,9 @@ module _ (start limit : ℕ) (hs : List ℕ) (helper16 helper_mem room : ℕ) wh
     where
       go : Replied start limit hs helper16 helper_mem room hs → IsWalk b
       go (out r f z) = absurd (let x : ◌≡◌ {A = Reply} (refusal r) (block b) = sym f ∙ e in let z : ◌≡◌ {A = ℕ} 0 1 = cc in omega arith)
-      go (came f z) = record { is = let x : ◌≡◌ {A = Reply} (block b) (block (block_of helper16 helper_mem (walked start limit hs))) = sym e ∙ f in cc; accepted = z }
+      go (came f z) =
+          let x : ◌≡◌ {A = Reply} (block b) (block (block_of helper16 helper_mem (walked start limit hs))) = sym e ∙ f in
+          record { is = cc; accepted = z }
 
 -- 3. Bounds of a walk: 64-bit addresses, no more instructions than were asked for
 

@@ -71,7 +71,8 @@ pub led : (t : Turn) (m : GuestState) (rb : RegisterBytes) → Typed t → Uncha
     → ((b : Block) → reply t m.pc ≡ block b → Enterable t b rb)
     → m.pc < 2 ^ 64 → SlotsAre rb m → m.registers 0 ≡ 0 → Led t m rb
 led t m rb ty un en low sl z =
-    go (replied m.pc t.limit t.made t.helper16 t.helper_mem (length t.output) (run_at t.code m.pc t.reach) un (run_halfwords t.code m.pc t.reach))
+    go (replied m.pc t.limit t.made t.helper16 t.helper_mem (length t.output) (run_at t.code m.pc t.reach) un
+    (run_halfwords t.code m.pc t.reach))
   where
     go : Replied m.pc t.limit t.made t.helper16 t.helper_mem (length t.output) (run_at t.code m.pc t.reach) → Led t m rb
     go (out r e f) = skipped t m rb r e f low sl z

@@ -243,7 +243,8 @@ module _ (undefined : State → Flags) (b : ℕ) (fits : b + 256 ≤ 2 ^ 64) whe
   agree (suc n) pc [] x s l h = stopped pc x s h
   agree (suc n) pc (g ∷ hs) x s l h =
       subst A (sym (long_is g))
-      (by (is_long g) (λ x s. agree n (plus pc 4) (drop 1 hs) x s (halfwords_drop g hs l)) (λ x s. agree n (plus pc 2) hs x s (halfwords_tail g hs l)))
+      (by (is_long g) (λ x s. agree n (plus pc 4) (drop 1 hs) x s (halfwords_drop g hs l))
+      (λ x s. agree n (plus pc 2) hs x s (halfwords_tail g hs l)))
     where
       p : Bool → Walked
       p t = elim t [

@@ -1,5 +1,5 @@
--- The compressed instructions of RV64C and the words that they expand to, encoding and meaning of a row together: a word by the fields of its
--- format. The comment behind a row has the manual's names of halfword and word.
+-- The compressed instructions of RV64C and the words that they expand to, encoding and meaning of a row together: a word by the fields of
+-- its format. The comment behind a row has the manual's names of halfword and word.
 -- RISC-V Unprivileged manual (20191213): chapter "C", and "RVC Instruction Set Listings" for what is reserved and what is a hint.
 -- Rows for RV32 or RV128 alone (C.JAL, C.LQ, C.FLW and the like) are not of RV64. A hint is what its row expands to.
 use Rattle.std.specs.Prelude.{Bool, true, not, cond, ◌&&◌, List, [], ◌∷◌, ℕ, suc, ◌+◌, ◌-◌, ◌*◌, ◌^◌, eqb, Option, None, Some}

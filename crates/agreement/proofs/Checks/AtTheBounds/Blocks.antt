@@ -1,5 +1,5 @@
--- The laws of blocks, each taken at its bounds: an output that is as long as the block, long runs, any start, limit, helpers and room, and each
--- bound as it is stated.
+-- The laws of blocks, each taken at its bounds: an output that is as long as the block, long runs, any start, limit, helpers and room, and
+-- each bound as it is stated.
 use Rattle.std.proofs.Common.{List, [], ◌∷◌, ◌≡◌, drop, length, replicate, take, suc, zero, ◌+◌, ◌*◌, ◌%◌, ◌^◌, ◌≤◌, ℕ, arith}
 use Rattle.agreement.specs.Cases.{copies}
 use Rattle.agreement.specs.Laws.{BothReached, Halfwords, LeftInOutput, Lengths, OutputsBlock, Reaches, ReachesSpan, Spans, SpansOf, SpansReached}
@@ -51,7 +51,8 @@ jumps_halfwords : Halfwords jumps
 unfolding jumps
 jumps_halfwords = copies_halfwords 70
 
-lengths_hold : (b : Block) → translate (2 ^ 70) (2 ^ 64) jumps (2 ^ 64) (2 ^ 65) 5000 ≡ block b → (67 ≤ length b.code) × (length b.code ≤ 4099)
+lengths_hold : (b : Block) → translate (2 ^ 70) (2 ^ 64) jumps (2 ^ 64) (2 ^ 65) 5000 ≡ block b
+    → (67 ≤ length b.code) × (length b.code ≤ 4099)
 unfolding Lengths
 lengths_hold b e = lengths (2 ^ 70) (2 ^ 64) jumps (2 ^ 64) (2 ^ 65) 5000 b e
 

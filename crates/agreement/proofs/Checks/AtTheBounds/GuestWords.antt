@@ -1,5 +1,5 @@
--- The laws of guest words, each taken at its bounds: words and halfwords that are none, having more bits; each number of a kind, at a size that no
--- word has; a word whose top bit is set; the immediates that reach furthest.
+-- The laws of guest words, each taken at its bounds: words and halfwords that are none, having more bits; each number of a kind, at a size
+-- that no word has; a word whose top bit is set; the immediates that reach furthest.
 use Rattle.std.proofs.Common.{true, List, [], ◌⊎◌, inl, inr, ◌≡◌, refl, ◌+◌, ◌-◌, ◌%◌, ◌^◌, ◌<◌, ◌≤◌, ℕ, arith}
 use Rattle.std.specs.Prelude.{Some}
 use Rattle.agreement.specs.Common.{Helper.for_access}
@@ -132,7 +132,8 @@ record Ranged (b j : ℕ) : Type 0 where
 ranged : (w : ℕ) → Ranged (Manual.imm_b w) (Manual.imm_j w)
 ranged w = let h : Ranges = ranges in record { b_range = h.b_range w; b_even = h.b_even w; j_range = h.j_range w; j_even = h.j_even w }
 
-furthest_ranged : Ranged (Manual.imm_b (2 ^ 40 - 1)) (Manual.imm_j (2 ^ 40 - 1)) × Ranged (Manual.imm_b 0x7FFFFF80) (Manual.imm_j 0x7FFFFF80)
+furthest_ranged : Ranged (Manual.imm_b (2 ^ 40 - 1)) (Manual.imm_j (2 ^ 40 - 1))
+    × Ranged (Manual.imm_b 0x7FFFFF80) (Manual.imm_j 0x7FFFFF80)
 furthest_ranged = (ranged (2 ^ 40 - 1), ranged 0x7FFFFF80)
 
 record Furthest : Type 0 where

@@ -1,5 +1,5 @@
--- The laws of host code, each taken at its bounds: every form with its greatest operands, before bytes, numbers that are no bytes and nothing; a
--- stretch of a thousand steps, and one that writes.
+-- The laws of host code, each taken at its bounds: every form with its greatest operands, before bytes, numbers that are no bytes and
+-- nothing; a stretch of a thousand steps, and one that writes.
 use Rattle.std.proofs.Common.{Bool, ◌&&◌, false, true, true≢false, sym, ltb, List, [], ◌∷◌, ◌++◌, ◌≡◌, ◌≢◌, refl, suc, zero, ◌+◌, ◌-◌, ◌^◌, ◌<◌, ℕ, arith}
 use Rattle.std.specs.Prelude.{Some}
 use Rattle.std.proofs.lemmas.Bool.{ltb-true}

@@ -1,5 +1,5 @@
--- The laws of numbers, each taken at its bounds: the least and great widths, the greatest number, every count of a shift, a divisor of one and of
--- minus one. A law that asks for more, or says less, does not serve here.
+-- The laws of numbers, each taken at its bounds: the least and great widths, the greatest number, the least and greatest count of a shift,
+-- a divisor of one and of minus one. A law that asks for more, or says less, does not serve here.
 use Rattle.std.proofs.Common.{◌≡◌, ◌≢◌, refl, ltb, eqb, ◌+◌, ◌-◌, ◌*◌, ◌^◌, ◌<◌, ℕ, arith}
 use Rattle.std.specs.Prelude.{ℤ, nat_abs, ◌+ℤ◌, ◌*ℤ◌}
 use Rattle.std.proofs.Math.IntN.{ℤ.pos, ℤ.negsuc}

@@ -1,5 +1,5 @@
--- The laws of runs, each taken at its bounds: the last address, a run longer than a turn reads, the longest run that any code has, codes that
--- differ just before and just behind the run and between its halfwords.
+-- The laws of runs, each taken at its bounds: the last address, a run longer than a turn reads, the longest run that any code has, codes
+-- that differ just before and just behind the run and between its halfwords.
 use Rattle.std.proofs.Common.{cond, List, [], ◌∷◌, ◌≡◌, ap, refl, eqb, length, suc, zero, ◌+◌, ◌-◌, ◌*◌, ◌%◌, ◌^◌, ◌<◌, ℕ, arith}
 use Rattle.std.specs.Prelude.{Some}
 use Rattle.agreement.specs.Riscv.Code.{Code, run_at}
@@ -11,8 +11,8 @@ use Rattle.agreement.proofs.Laws.Needed.{needs_no_more}
 use Rattle.agreement.proofs.Laws.Runs.{runs_alike, runs_held}
 use Rattle.agreement.proofs.Laws.Tests.{eqb_no}
 
--- 1. What is needed: of no halfword, of more than 64 words, of numbers that are no halfwords; for a limit of 0, of 1 and of more than 64; at any
--- start; for any helpers; with any room
+-- 1. What is needed: of no halfword, of more than 64 words, of numbers that are no halfwords; for a limit of 0, of 1 and of more than 64;
+-- at any start; for any helpers; with any room
 
 abbrev many : List ℕ
 many = copies 70 (words (0x00500093 ∷ []))
@@ -21,7 +21,8 @@ needed_of_none : translate 0x80000000 64 (needed 64 []) 0 0 4099 ≡ translate 0
 unfolding NeedsNoMore
 needed_of_none = needs_no_more 0x80000000 64 [] 0 0 4099
 
-needed_of_many : translate (2 ^ 70) (2 ^ 64) (needed 64 many) (2 ^ 64) (2 ^ 65) 5000 ≡ translate (2 ^ 70) (2 ^ 64) many (2 ^ 64) (2 ^ 65) 5000
+needed_of_many : translate (2 ^ 70) (2 ^ 64) (needed 64 many) (2 ^ 64) (2 ^ 65) 5000
+    ≡ translate (2 ^ 70) (2 ^ 64) many (2 ^ 64) (2 ^ 65) 5000
 unfolding NeedsNoMore
 needed_of_many = needs_no_more (2 ^ 70) (2 ^ 64) many (2 ^ 64) (2 ^ 65) 5000
 
@@ -33,7 +34,8 @@ needed_for_none : translate 1 0 (needed 0 many) 1 2 3 ≡ translate 1 0 many 1 2
 unfolding NeedsNoMore
 needed_for_none = needs_no_more 1 0 many 1 2 3
 
-needed_of_numbers : translate 0 65 (needed 64 (2 ^ 20 ∷ 2 ^ 20 ∷ 0x4108 ∷ [])) 0 0 4098 ≡ translate 0 65 (2 ^ 20 ∷ 2 ^ 20 ∷ 0x4108 ∷ []) 0 0 4098
+needed_of_numbers : translate 0 65 (needed 64 (2 ^ 20 ∷ 2 ^ 20 ∷ 0x4108 ∷ [])) 0 0 4098
+    ≡ translate 0 65 (2 ^ 20 ∷ 2 ^ 20 ∷ 0x4108 ∷ []) 0 0 4098
 unfolding NeedsNoMore
 needed_of_numbers = needs_no_more 0 65 (2 ^ 20 ∷ 2 ^ 20 ∷ 0x4108 ∷ []) 0 0 4098
 
@@ -48,7 +50,8 @@ other x = cond (eqb x (2 ^ 64 - 6)) (Some 0x1111) (cond (eqb x 136) (Some 0x2222
 same_there : (k : ℕ) → k < 70 → one ((2 ^ 64 - 4 + 2 * k) % 2 ^ 64) ≡ other ((2 ^ 64 - 4 + 2 * k) % 2 ^ 64)
 same_there k l =
     let x : ℕ = (2 ^ 64 - 4 + 2 * k) % 2 ^ 64 in
-    rw (eqb_no x (2 ^ 64 - 6) (λ e. omega (arith, l, e)), eqb_no x 136 (λ e. omega (arith, l, e)), eqb_no (x % 2) 1 (λ e. omega (arith, l, e))) refl
+    rw (eqb_no x (2 ^ 64 - 6) (λ e. omega (arith, l, e)), eqb_no x 136 (λ e. omega (arith, l, e)))
+    (rw (eqb_no (x % 2) 1 (λ e. omega (arith, l, e))) refl)
 
 alike_70 : run_at one (2 ^ 64 - 4) 70 ≡ run_at other (2 ^ 64 - 4) 70
 unfolding RunsAlike
