@@ -7,8 +7,8 @@ use Rattle.agreement.specs.Laws.{Ends, Ends.leaves, Ends.sets, ExpandsAlike, Exp
 use Rattle.agreement.specs.Riscv.Compressed.{expansion, expansion_by}
 use Rattle.agreement.specs.Riscv.Compressed as Compressed
 use Rattle.agreement.specs.Riscv.Immediates as Manual
-use Rattle.agreement.specs.Riscv.Instruction.{Access, Instruction}
-use Rattle.agreement.specs.Riscv.Instruction.Instruction.{FENCE, FENCE_I, JAL, access, other}
+use Rattle.agreement.specs.Riscv.Instruction.{Instruction, Access.LB, Access.SD, Branch.BGEU, Op.DIVW, OpImm.SRAIW, Unmodelled.ECALL}
+use Rattle.agreement.specs.Riscv.Instruction.Instruction.{AUIPC, FENCE, FENCE_I, JAL, JALR, LUI, access, branch, op, op_imm, other, unmodelled}
 use Rattle.agreement.specs.Riscv.Run.{in_line, is_in_line, taken}
 use Rattle.agreement.specs.Translation.Decode16.{expand}
 use Rattle.agreement.specs.Translation.Decode32 as Decode32
@@ -34,7 +34,7 @@ named w = record { name = taken_alike w }
 words_named : Named 0 × Named (2 ^ 32 - 1) × Named (2 ^ 32 + 0x00500093) × Named (2 ^ 100 + 0x0200C133)
 words_named = (named 0, named (2 ^ 32 - 1), named (2 ^ 32 + 0x00500093), named (2 ^ 100 + 0x0200C133))
 
--- 2. What the number of a kind says: of a word of 6 bytes and more than 32 bits at an odd pc beyond 2^64
+-- 2. What the number of a kind says, of each family: of a word of 6 bytes and more than 32 bits at an odd pc beyond 2^64
 
 abbrev behind : Walked
 behind = record { code = []; added = 70; span = 300; end = jumped }
@@ -47,12 +47,20 @@ wide = 2 ^ 40 + 0x00500093
 
 record Walks : Type 0 where
   not_taken : emit other 6 far wide behind ≡ not_taken_at far wide
+  not_modelled : emit (unmodelled ECALL) 6 far wide behind ≡ not_taken_at far wide
   code : List Instr
   goes_on : emit FENCE 6 far wide behind ≡ before 6 code behind
   goes_on_alike : emit FENCE 6 far wide (not_taken_at 0 0) ≡ before 6 code (not_taken_at 0 0)
+  op_goes_on : GoesOn (op DIVW) 6 far wide
+  op_imm_goes_on : GoesOn (op_imm SRAIW) 6 far wide
+  lui_goes_on : GoesOn LUI 6 far wide
+  auipc_goes_on : GoesOn AUIPC 6 far wide
   ends : Ends JAL 6 far wide
+  jalr_ends : Ends JALR 6 far wide
+  branch_ends : Ends (branch BGEU) 6 far wide
   leaves : Ends FENCE_I 6 far wide
-  helped : emit (access Access.LB) 6 far wide behind ≡ helps for_access wide far
+  helped : emit (access LB) 6 far wide behind ≡ helps for_access wide far
+  store_helped : emit (access SD) 6 far wide behind ≡ helps for_access wide far
 
 walks : Walks
 unfolding KindsWalk WalksBy
@@ -60,12 +68,20 @@ walks =
     let on : GoesOn FENCE 6 far wide = kinds_walk FENCE 6 far wide in
     record {
       not_taken = kinds_walk other 6 far wide behind;
+      not_modelled = kinds_walk (unmodelled ECALL) 6 far wide behind;
       code = on.code;
       goes_on = on.on behind;
       goes_on_alike = on.on (not_taken_at 0 0);
+      op_goes_on = kinds_walk (op DIVW) 6 far wide;
+      op_imm_goes_on = kinds_walk (op_imm SRAIW) 6 far wide;
+      lui_goes_on = kinds_walk LUI 6 far wide;
+      auipc_goes_on = kinds_walk AUIPC 6 far wide;
       ends = kinds_walk JAL 6 far wide;
+      jalr_ends = kinds_walk JALR 6 far wide;
+      branch_ends = kinds_walk (branch BGEU) 6 far wide;
       leaves = kinds_walk FENCE_I 6 far wide;
-      helped = kinds_walk (access Access.LB) 6 far wide behind;
+      helped = kinds_walk (access LB) 6 far wide behind;
+      store_helped = kinds_walk (access SD) 6 far wide behind;
     }
 
 -- what an ending word does is one of two things, whatever stands behind it

@@ -118,10 +118,10 @@ ret_written : Written (0xC3 ∷ []) ret []
 unfolding the_model small
 ret_written = written (0xC3 ∷ []) ret [] (small_bytes _ refl) refl
 
--- 3. Steps: where every byte is CDQ, which has one byte
+-- 3. Steps: where every byte is CDQ, which has one byte. Nothing more is permitted than is done, and registers and bytes have more bits than theirs
 
-abbrev anywhere : Permissions
-anywhere = record { fetch = λ x. true; read = λ x. true; write = λ x. true }
+abbrev fetching : Permissions
+fetching = record { fetch = λ x. true; read = λ x. false; write = λ x. false }
 
 abbrev kept : State → Flags
 kept s = s.flags
@@ -131,13 +131,13 @@ all_bytes b regs rip = record { regs = regs; flags = clear; rip = rip; mem = λ 
 
 -- the state behind one of them, and behind n
 abbrev next_regs : (ℕ → ℕ) → ℕ → ℕ
-next_regs regs = (exec kept (cqo r32) (all_bytes 0x99 regs 0)).regs
+next_regs regs = (exec kept (cqo r32) (all_bytes 0x199 regs 0)).regs
 
 behind_steps : ℕ → (ℕ → ℕ) → ℕ → State
-behind_steps zero regs rip = all_bytes 0x99 regs rip
+behind_steps zero regs rip = all_bytes 0x199 regs rip
 behind_steps (suc n) regs rip = behind_steps n (next_regs regs) (up rip)
 
-goes : (n : ℕ) (regs : ℕ → ℕ) (rip : ℕ) → Goes kept anywhere (all_bytes 0x99 regs rip) n [] (behind_steps n regs rip)
+goes : (n : ℕ) (regs : ℕ → ℕ) (rip : ℕ) → Goes kept fetching (all_bytes 0x199 regs rip) n [] (behind_steps n regs rip)
 unfolding behind_steps the_model
 goes zero regs rip = done
 goes (suc n) regs rip = more {f = record { instr = cqo r32; size = 1 }} refl not_call not_ret refl (goes n (next_regs regs) (up rip))
@@ -150,19 +150,25 @@ goes (suc n) regs rip = more {f = record { instr = cqo r32; size = 1 }} refl not
 
 -- a thousand, the first of them in the last byte of memory
 abbrev some_regs : ℕ → ℕ
-some_regs r = 100 + r
+some_regs r = 2 ^ 70 + r
 
-thousand : steps kept anywhere 1000 (all_bytes 0x99 some_regs (2 ^ 64 - 1)) ≡ Some (behind_steps 1000 some_regs (2 ^ 64 - 1), [])
+thousand : steps kept fetching 1000 (all_bytes 0x199 some_regs (2 ^ 64 - 1)) ≡ Some (behind_steps 1000 some_regs (2 ^ 64 - 1), [])
 unfolding StepsAlike
 thousand =
-    steps_alike kept anywhere (all_bytes 0x99 some_regs (2 ^ 64 - 1)) (behind_steps 1000 some_regs (2 ^ 64 - 1)) 1000 []
+    steps_alike kept fetching (all_bytes 0x199 some_regs (2 ^ 64 - 1)) (behind_steps 1000 some_regs (2 ^ 64 - 1)) 1000 []
     (goes 1000 some_regs (2 ^ 64 - 1))
 
--- PUSH RBX, which writes eight bytes around the end of the address space
-abbrev pushed : State
-pushed = exec kept (push 3) (past 1 (all_bytes 0x53 (λ r. 4) 0))
+-- PUSH RBX, from beyond the address space, which writes eight bytes around its end
+abbrev writing : Permissions
+writing = record { fetch = λ x. true; read = λ x. false; write = λ x. true }
 
-pushes : Goes kept anywhere (all_bytes 0x53 (λ r. 4) 0) 1 (span 8 (2 ^ 64 - 4)) pushed
+abbrev cleared : State → Flags
+cleared s = clear
+
+abbrev pushed : State
+pushed = exec cleared (push 3) (past 1 (all_bytes 0x53 (λ r. 4) (2 ^ 70)))
+
+pushes : Goes cleared writing (all_bytes 0x53 (λ r. 4) (2 ^ 70)) 1 (span 8 (2 ^ 64 - 4)) pushed
 unfolding the_model
 pushes = more {f = record { instr = push 3; size = 1 }} refl not_call not_ret refl done
   where
@@ -172,6 +178,6 @@ pushes = more {f = record { instr = push 3; size = 1 }} refl not_call not_ret re
     not_ret : push 3 ≢ ret
     not_ret e = let z : ◌≡◌ {A = ℕ} 0 1 = cc in omega arith
 
-one_that_writes : steps kept anywhere 1 (all_bytes 0x53 (λ r. 4) 0) ≡ Some (pushed, span 8 (2 ^ 64 - 4))
+one_that_writes : steps cleared writing 1 (all_bytes 0x53 (λ r. 4) (2 ^ 70)) ≡ Some (pushed, span 8 (2 ^ 64 - 4))
 unfolding StepsAlike
-one_that_writes = steps_alike kept anywhere (all_bytes 0x53 (λ r. 4) 0) pushed 1 (span 8 (2 ^ 64 - 4)) pushes
+one_that_writes = steps_alike cleared writing (all_bytes 0x53 (λ r. 4) (2 ^ 70)) pushed 1 (span 8 (2 ^ 64 - 4)) pushes

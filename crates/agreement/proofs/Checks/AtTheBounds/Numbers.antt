@@ -146,6 +146,10 @@ unfolding DivideTowardZero overflows
 remainder_below_0 =
     divided 100 (2 ^ 100 - 7) 2 (divide_toward_zero 99 (2 ^ 100 - 7) 2 (omega arith) (omega arith) (λ e. omega (arith, e)) refl)
 
+of_one_bit : Divided 1 0 1
+unfolding DivideTowardZero overflows
+of_one_bit = divided 1 0 1 (divide_toward_zero 0 0 1 (omega arith) (omega arith) (λ e. omega (arith, e)) refl)
+
 by_greater : Divided 32 5 (2 ^ 31 - 1)
 unfolding DivideTowardZero overflows
 by_greater = divided 32 5 (2 ^ 31 - 1) (divide_toward_zero 31 5 (2 ^ 31 - 1) (omega arith) (omega arith) (λ e. omega (arith, e)) refl)
