@@ -118,7 +118,8 @@ ret_written : Written (0xC3 ∷ []) ret []
 unfolding the_model small
 ret_written = written (0xC3 ∷ []) ret [] (small_bytes _ refl) refl
 
--- 3. Steps: where every byte is CDQ, which has one byte. Nothing more is permitted than is done, and registers and bytes have more bits than theirs
+-- 3. Steps: where every byte is CDQ, which has one byte. Nothing more is permitted than is done, and registers and bytes are numbers
+-- that have more bits
 
 abbrev fetching : Permissions
 fetching = record { fetch = λ x. true; read = λ x. false; write = λ x. false }
