@@ -1,5 +1,5 @@
--- The statements on kept blocks, of the exported functions, applied to the operations of crate coherence's example (its proofs/Applied), by calls
--- that can be made.
+-- The statements on kept blocks, of the exported functions, applied to the operations of crate coherence's example (its proofs/Applied), by
+-- calls that can be made.
 use Rattle.std.proofs.Common.{◌≡◌, refl, List, [], ℕ, ◌-◌}
 use Rattle.agreement.specs.Riscv.Code.{run_at}
 use Rattle.agreement.specs.Cases.{words}

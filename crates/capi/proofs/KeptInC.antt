@@ -65,7 +65,12 @@ found_may_be_entered_in_c = found_may_be_entered_of Does leaves Finds (λ xs j e
 -- 3. Such calls
 
 calls : (q : Request) (cs : Codes) → Calls q cs (padded (numbered (reply_to q cs)))
-calls q cs = (out, output_after (reply (length out)) out, long, record { replies = ap (λ (n : ℕ). padded (numbered (reply n))) (sym long); leaves = refl })
+calls q cs = (
+  out,
+  output_after (reply (length out)) out,
+  long,
+  record { replies = ap (λ (n : ℕ). padded (numbered (reply n))) (sym long); leaves = refl },
+)
   where
     out : List ℕ
     out = replicate q.room 0

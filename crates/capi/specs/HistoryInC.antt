@@ -1,5 +1,5 @@
--- The history of the exported functions: of calls of `emuko_index_find`, `emuko_index_insert`, `emuko_index_empty` and `emuko_index_drop` that
--- meet their contracts.
+-- The history of the exported functions: of calls of `emuko_index_find`, `emuko_index_insert`, `emuko_index_empty` and `emuko_index_drop`
+-- that meet their contracts.
 use Rattle.std.specs.Prelude.{List, [], ℕ}
 use Rattle.entry.specs.History.{Event, Event.emptied, Event.dropped, Operation, Operation.inserts, Operation.empties, Operation.drops, outcome}
 use Rattle.entry.specs.declared.Key.{Key}

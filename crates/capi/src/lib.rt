@@ -15,10 +15,9 @@ ghost use Rattle.index.specs.Answers as Indexed;
 ghost use Rattle.capi.specs.Replies.{or_0, padded, Replies, RepliesToPlacing};
 ghost use Rattle.capi.specs.Indexes.{RepliesToFind, RepliesToInsert};
 
-use block::{Block, Helpers, Refusal};
+use block::{Block, Helpers};
 use entry::{Entry, Key, NativeBlock};
-use index::Full;
-use store::{NativeCodeCache, Placed, Refused};
+use store::{NativeCodeCache, Placed};
 
 // Document 01, "Replies": the number, 0 where there is none, and its values, 0 where there are fewer. Numbers, and below satp and pc by
 // themselves, since C calls this.
@@ -42,17 +41,17 @@ fn numbers(number: u64, first: u64, second: u64, third: u64) -> Reply
     }
 }
 
-impl From<Result<Block, Refusal>> for Reply {
+impl From<Result<Block, block::Refusal>> for Reply {
     ghost from_gives = { λ a r. r ≡ padded (Answers.answered a) };
 
-    fn from(answer: Result<Block, Refusal>) -> Reply {
+    fn from(answer: Result<Block, block::Refusal>) -> Reply {
         match answer {
             Ok(block) => numbers(0, block.length as u64, block.count as u64, block.span),
-            Err(Refusal::LimitZero) => numbers(1, 0, 0, 0),
-            Err(Refusal::OddStart(start)) => numbers(2, start, 0, 0),
-            Err(Refusal::Missing(index)) => numbers(3, index as u64, 0, 0),
-            Err(Refusal::NotTaken(word)) => numbers(4, word as u64, 0, 0),
-            Err(Refusal::OutputShort) => numbers(5, 0, 0, 0),
+            Err(block::Refusal::LimitZero) => numbers(1, 0, 0, 0),
+            Err(block::Refusal::OddStart(start)) => numbers(2, start, 0, 0),
+            Err(block::Refusal::Missing(index)) => numbers(3, index as u64, 0, 0),
+            Err(block::Refusal::NotTaken(word)) => numbers(4, word as u64, 0, 0),
+            Err(block::Refusal::OutputShort) => numbers(5, 0, 0, 0),
         }
     }
 }
@@ -87,13 +86,13 @@ pub extern "C" fn emuko_translate(
     block::translate(start, limit, halfwords, helpers, out).into()
 }
 
-impl From<Result<Placed, Refused>> for Reply {
+impl From<Result<Placed, store::Refusal>> for Reply {
     ghost from_gives = { λ a r. r ≡ padded (Places.answered a) };
 
-    fn from(answer: Result<Placed, Refused>) -> Reply {
+    fn from(answer: Result<Placed, store::Refusal>) -> Reply {
         match answer {
             Ok(placed) => numbers(0, placed.offset as u64, placed.mark as u64, 0),
-            Err(refused) => numbers(refused as u64, 0, 0, 0),
+            Err(refusal) => numbers(refusal as u64, 0, 0, 0),
         }
     }
 }
@@ -132,13 +131,13 @@ pub extern "C" fn emuko_index_find(entries: &[Entry], satp: u64, pc: u64) -> Ent
     index::find(entries, Key { satp, pc }).unwrap_or_default()
 }
 
-impl From<Result<usize, Full>> for Reply {
+impl From<Result<usize, index::Refusal>> for Reply {
     ghost from_gives = { λ a r. r ≡ padded (Indexed.numbered a) };
 
-    fn from(answer: Result<usize, Full>) -> Reply {
+    fn from(answer: Result<usize, index::Refusal>) -> Reply {
         match answer {
             Ok(index) => numbers(0, index as u64, 0, 0),
-            Err(Full) => numbers(8, 0, 0, 0),
+            Err(full) => numbers(full as u64, 0, 0, 0),
         }
     }
 }

@@ -29,7 +29,8 @@ module _ (May : Calls) (leaves : (cs : Codes) (o : Operation) (xs ys : List Entr
       → xs ≡ after es cs operations
   led es cs operations xs begin = refl
   led es cs operations ys (Of.Leads.then {o = o} {operations = earlier} {xs = xs} l call) =
-      leaves (codes_after cs earlier) o xs ys call ∙ ap (left_by (codes_after cs earlier) o) (led es cs earlier xs l) ∙ one_more es cs o earlier
+      leaves (codes_after cs earlier) o xs ys call ∙ ap (left_by (codes_after cs earlier) o) (led es cs earlier xs l)
+      ∙ one_more es cs o earlier
 
   pub keeps_spans_of : KeepsSpansOf May
   unfolding KeepsSpans
@@ -46,6 +47,8 @@ module _ (May : Calls) (leaves : (cs : Codes) (o : Operation) (xs ys : List Entr
 module _ (May : Calls) (can : (cs : Codes) (o : Operation) (xs : List Entry) → May cs o xs (left_by cs o xs)) where
   pub reached : CanBeMade May
   reached es cs [] = begin
-  reached es cs (translates q ∷ earlier) = Of.Leads.then (reached es cs earlier) (can (codes_after cs earlier) (translates q) (after es cs earlier))
-  reached es cs (writes a n cs' ∷ earlier) = Of.Leads.then (reached es cs earlier) (can (codes_after cs earlier) (writes a n cs') (after es cs earlier))
+  reached es cs (translates q ∷ earlier) =
+      Of.Leads.then (reached es cs earlier) (can (codes_after cs earlier) (translates q) (after es cs earlier))
+  reached es cs (writes a n cs' ∷ earlier) =
+      Of.Leads.then (reached es cs earlier) (can (codes_after cs earlier) (writes a n cs') (after es cs earlier))
   reached es cs (empties ∷ earlier) = Of.Leads.then (reached es cs earlier) (can (codes_after cs earlier) empties (after es cs earlier))

@@ -1,11 +1,10 @@
 -- The theorems applied to a longer list of operations, of definitions and code: three blocks under three satps, one of which goes on at
 -- address 0; a refused translation; writes of none, 1, 2 and 8 bytes, that change all they may; an emptying, and translations behind it.
 use Rattle.std.specs.Prelude.{Some, slice_get}
-use Rattle.std.specs.List.{list_any}
-use Rattle.std.proofs.Common.{◌≡◌, refl, sym, ap, ◌∙◌, Bool, true, false, cond, ◌||◌, List, [], ◌∷◌, ◌++◌, ℕ, ◌-◌, ◌*◌, ◌^◌, ◌≤◌, arith, eqb, eqb-true}
-use Rattle.std.proofs.Common.{◌+◌, length, subst}
+use Rattle.std.proofs.Common.{◌≡◌, refl, sym, ap, ◌∙◌, Bool, true, false, cond, ◌||◌, List, [], ◌∷◌, ◌++◌, ℕ, ◌-◌, ◌^◌, arith, eqb, eqb-true}
+use Rattle.std.proofs.Common.{length, subst}
 use Rattle.agreement.specs.Riscv.Code.{Code, SameIn, run_at}
-use Rattle.agreement.specs.Translation.Replies.{Block, Reply.block}
+use Rattle.agreement.specs.Translation.Replies.{Reply.block}
 use Rattle.agreement.specs.Cases.{words}
 use Rattle.agreement.proofs.Checks.CasesHold.{translations}
 use Rattle.agreement.proofs.Laws.Runs.{held}
@@ -74,8 +73,8 @@ request satp pc reach offset = record {
 
 abbrev pub kept : List Operation
 kept =
-    writes 0x80000009 8 second ∷ writes 1 0 first ∷ translates (request 1 0x80000001 (end - 1) 7) ∷ translates (request (end - 1) 0x80000000 2 200)
-    ∷ translates (request 1 0x80000000 4 88) ∷ translates at_end ∷ []
+    writes 0x80000009 8 second ∷ writes 1 0 first ∷ translates (request 1 0x80000001 (end - 1) 7)
+    ∷ translates (request (end - 1) 0x80000000 2 200) ∷ translates (request 1 0x80000000 4 88) ∷ translates at_end ∷ []
 
 abbrev pub three : List Entry
 three = blank ∷ blank ∷ blank ∷ []
@@ -84,13 +83,12 @@ abbrev pub entry : ℕ → ℕ → ℕ → ℕ → ℕ → ℕ → ℕ → Entry
 entry mark satp pc offset count length span =
     record { satp = satp; pc = pc; block = record { offset = offset; count = count; length = length; span = span }; in_use = mark }
 
-
 left : after three first kept
     ≡ entry 1 2 (end - 4) (end - 1) 2 88 8 ∷ entry 1 1 0x80000000 88 2 88 8 ∷ entry 1 (end - 1) 0x80000000 200 1 88 4 ∷ []
 unfolding translations words run_at touches
 left = refl
 
--- behind the first write two entries are touched by none; then two bytes are written, the last and the first of all, and the first entry goes
+-- then two bytes are written, the last and the first of all, and the first entry goes; no write touched the other two
 abbrev pub touched : List Operation
 touched = writes (end - 1) 2 third ∷ kept
 
@@ -200,7 +198,8 @@ its_request c = at c.later c.when
 its_block : (c : IsCurrent first kept wrapping) → reply_to at_end first ≡ block c.b
 its_block c =
     let i = its_request c in
-    ap (λ (q : Request). reply_to q first) (sym i.0) ∙ ap (λ (l : List Operation). reply_to c.request (codes_after first l)) (sym i.1) ∙ c.made
+    ap (λ (q : Request). reply_to q first) (sym i.0)
+    ∙ ap (λ (l : List Operation). reply_to c.request (codes_after first l)) (sym i.1) ∙ c.made
 
 its_parts : (c : IsCurrent first kept wrapping) → (c.b.count ≡ 2) × (length c.b.code ≡ 88) × (c.b.span ≡ 8) × (c.request.offset ≡ end - 1)
 its_parts c = (

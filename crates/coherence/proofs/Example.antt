@@ -127,7 +127,9 @@ enters q those these t reach h = record {
 
 first_found : MayBeEntered before operations (record { satp = 1; pc = 0x80000000 }) (entry 1 1 0x80000000 0 88)
 unfolding translations words run_at touches FoundMayBeEntered
-first_found = found_may_be_entered (blank ∷ blank ∷ []) before operations refl (one_byte, tt) (record { satp = 1; pc = 0x80000000 }) (entry 1 1 0x80000000 0 88) refl
+first_found =
+    found_may_be_entered (blank ∷ blank ∷ []) before operations refl (one_byte, tt) (record { satp = 1; pc = 0x80000000 })
+    (entry 1 1 0x80000000 0 88) refl
 
 may_be : (m : MayBeEntered before operations (record { satp = 1; pc = 0x80000000 }) (entry 1 1 0x80000000 0 88)) (t : Turn)
     → length t.output ≡ 4099

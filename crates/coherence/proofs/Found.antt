@@ -24,7 +24,8 @@ found_in : (p : Entry → Bool) (es : List Entry) (e : Entry) → Lists.find p e
 found_in p [] e h = absurd (cc)
 found_in p (d ∷ es) e h = at (p d) refl h (found_in p es e)
   where
-    at : (b : Bool) → p d ≡ b → cond b (Some d) (Lists.find p es) ≡ Some e → (Lists.find p es ≡ Some e → FoundIn p es e) → FoundIn p (d ∷ es) e
+    at : (b : Bool) → p d ≡ b → cond b (Some d) (Lists.find p es) ≡ Some e → (Lists.find p es ≡ Some e → FoundIn p es e)
+        → FoundIn p (d ∷ es) e
     at true t k r = let q : d ≡ e = cc in record { slot = 0; there = k; passes = ap p (sym q) ∙ t }
     at false t k r = let f = r k in record { slot = suc f.slot; there = f.there; passes = f.passes }
 
@@ -36,7 +37,8 @@ module _ (cs : Codes) (operations : List Operation) (e : Entry) (c : IsCurrent c
     (h : Enters c.request (codes_after cs c.earlier) (codes_after cs operations) k) where
   its_block : (b : Block) → reply k.turn c.request.pc ≡ block b → c.b ≡ b
   its_block b m =
-      let same : ◌≡◌ {A = Reply} (block c.b) (block b) = sym c.made ∙ sym (entered_reply c.request (codes_after cs c.earlier) (codes_after cs operations) k h) ∙ m in
+      let same : ◌≡◌ {A = Reply} (block c.b) (block b) =
+      sym c.made ∙ sym (entered_reply c.request (codes_after cs c.earlier) (codes_after cs operations) k h) ∙ m in
       cc
 
   as_it_was : Unchanged k.turn c.request.pc
@@ -52,7 +54,8 @@ module _ (cs : Codes) (operations : List Operation) (e : Entry) (c : IsCurrent c
         let span : e.block.span ≡ b.span = ap (λ (x : NativeBlock). x.span) c.has_block ∙ ap (λ (x : Block). x.span) is in
         omega (arith, span, reach);
     refused = λ r m y.
-        let same : ◌≡◌ {A = Reply} (block c.b) (refusal r) = sym c.made ∙ sym (entered_reply c.request (codes_after cs c.earlier) (codes_after cs operations) k h) ∙ m in
+        let same : ◌≡◌ {A = Reply} (block c.b) (refusal r) =
+        sym c.made ∙ sym (entered_reply c.request (codes_after cs c.earlier) (codes_after cs operations) k h) ∙ m in
         absurd (let z : ◌≡◌ {A = ℕ} 0 1 = cc in omega arith);
   }
 
@@ -68,5 +71,6 @@ found_may_be_entered es cs operations n w j e f =
       current = c;
       under = sym (ap (λ (x : Key). x.satp) c.has_key) ∙ ap (λ (x : Key). x.satp) key;
       at = pc;
-      enters = λ k h reach. subst (AskedOfCode k) pc (record { made = as_it_was cs operations e c k h; now = may_enter cs operations e c k h reach });
+      enters = λ k h reach.
+          subst (AskedOfCode k) pc (record { made = as_it_was cs operations e c k h; now = may_enter cs operations e c k h reach });
     }

@@ -83,7 +83,8 @@ not_touched a n e u t = ap (λ (b : Bool). b && touches e.pc e.block.span a n) (
 
 module _ (cs : Codes) (operations : List Operation) (es : List Entry) (current : AllCurrent cs operations es) where
   -- a translation: the entry it was put in is of the code as it is, and the others stay
-  translated : (q : Request) (r : Reply) → reply_to q (codes_after cs operations) ≡ r → AllCurrent cs (translates q ∷ operations) (inserted es q r)
+  translated : (q : Request) (r : Reply) → reply_to q (codes_after cs operations) ≡ r
+      → AllCurrent cs (translates q ∷ operations) (inserted es q r)
   translated q (refusal r) m slot e h u = later_too cs operations (translates q) e (current slot e h u) (λ k l. refl)
   translated q (block b) m slot e h u = at (over_slot (taken es (key q)) (renewed (key q) (native q b)) es slot e h)
     where
@@ -102,7 +103,8 @@ module _ (cs : Codes) (operations : List Operation) (es : List Entry) (current :
       }
 
   -- a write: an entry still in use was not touched, and so no halfword within its span was written
-  written : (a n : ℕ) (cs' : Codes) → Writes a n (codes_after cs operations) cs' → AllCurrent cs (writes a n cs' ∷ operations) (drop_touched es a n)
+  written : (a n : ℕ) (cs' : Codes) → Writes a n (codes_after cs operations) cs'
+      → AllCurrent cs (writes a n cs' ∷ operations) (drop_touched es a n)
   written a n cs' w slot e h u = at (is_dropped a n was.d) refl was.becomes
     where
       was : Was (λ d. cond (is_dropped a n d) (freed d) d) es slot e
@@ -118,7 +120,8 @@ module _ (cs : Codes) (operations : List Operation) (es : List Entry) (current :
           ap (λ (x : ℕ). touches x c.b.span a n) (sym pc) ∙ ap (λ (x : ℕ). touches e.pc x a n) (sym span)
           ∙ not_touched a n e u (ap (is_dropped a n) (sym k) ∙ t)
           in
-          later_too cs operations (writes a n cs') e c (unwritten c.request.pc c.b.span a n c.request.satp (codes_after cs operations) cs' t' w)
+          later_too cs operations (writes a n cs') e c
+          (unwritten c.request.pc c.b.span a n c.request.satp (codes_after cs operations) cs' t' w)
 
   emptied : AllCurrent cs (empties ∷ operations) (empty es)
   emptied slot e h u = let w = map_slot freed es slot e h in absurd (true≢false (sym u ∙ sym (ap is_in_use w.becomes)))

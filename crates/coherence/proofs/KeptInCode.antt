@@ -1,5 +1,5 @@
 -- The same of the code: each call's contract gives what the definition leaves.
-use Rattle.std.proofs.Common.{◌≡◌, refl, sym, ap, ◌∙◌, subst, List, ℕ, length, take, Ok, Err}
+use Rattle.std.proofs.Common.{◌≡◌, sym, ap, ◌∙◌, List, ℕ, length, take, Ok, Err}
 use Rattle.agreement.specs.Translation.Replies.{Block, numbered, translate}
 use Rattle.agreement.proofs.Laws.Values.{first-value}
 use Rattle.block.specs.Answers.{Answer}
@@ -20,7 +20,8 @@ module _ (q : Request) (cs : Codes) where
   replied r c = ap (translate q.pc q.limit (run_for q cs) q.helper16 q.helper_mem) (sym c.2) ∙ sym (reads _ r c.3)
 
   -- and an inserted block is the definition's
-  same_block : (b : Rust.Block) (c : Calls q cs (Ok b)) (es : List Entry) → inserted es q (reply_to q cs) ≡ insert es (key q) (native_of q b)
+  same_block : (b : Rust.Block) (c : Calls q cs (Ok b)) (es : List Entry)
+      → inserted es q (reply_to q cs) ≡ insert es (key q) (native_of q b)
   unfolding numbered
   same_block b c es =
       let m : Block = record { code = take b.length c.1; count = b.count; span = b.span } in

@@ -1,4 +1,4 @@
--- The calls that the statement of the code speaks of can be made: whatever the operations, there are such as leave the definition's entries.
+-- The calls that the statements of the code speak of can be made: whatever the operations, some leave the definition's entries.
 use Rattle.std.proofs.Common.{◌≡◌, refl, subst, List, ℕ, length, replicate}
 use Rattle.agreement.specs.Translation.Replies.{Reply, Reply.block, Reply.refusal, output_after, translate}
 use Rattle.agreement.specs.Translation.Replies.Refusal.{limit_zero, odd_start, missing, not_taken, output_short}

@@ -6,7 +6,7 @@ use Rattle.block.specs.declared.Refusal.{Refusal}
 use Rattle.entry.specs.declared.Entry.{Entry}
 use Rattle.entry.specs.declared.NativeBlock.{NativeBlock}
 use Rattle.index.specs.Answers.{Finds, Inserts, Empties, Drops}
-use Rattle.index.specs.declared.Full.{Full}
+use Rattle.index.specs.declared.Refusal as Index
 use Rattle.coherence.specs.Keeping.{Codes, Request, run_for, key, Operation, Operation.translates, Operation.writes, Operation.empties}
 use Rattle.coherence.specs.KeepingOf.{KeepsSpansOf, FoundMayBeEnteredOf, CanBeMade}
 
@@ -21,7 +21,7 @@ native_of q b = record { offset = q.offset; count = b.count; length = b.length; 
 
 -- an operation by calls that their contracts allow: a block that `translate` answers is inserted
 pub data Does (cs : Codes) : Operation → List Entry → List Entry → Type 0 where
-  insert : {xs ys : List Entry} {q : Request} {b : Rust.Block} {r : Result ℕ Full}
+  insert : {xs ys : List Entry} {q : Request} {b : Rust.Block} {r : Result ℕ Index.Refusal}
       → Calls q cs (Ok b) → Inserts xs ys (key q) (native_of q b) r → Does cs (translates q) xs ys
   refused : {xs : List Entry} {q : Request} {r : Refusal} → Calls q cs (Err r) → Does cs (translates q) xs xs
   drop : {xs ys : List Entry} {a n r : ℕ} {cs' : Codes} → Drops xs ys a n r → Does cs (writes a n cs') xs ys

@@ -24,8 +24,8 @@ pub data Leads (May : Calls) (es : List Entry) (cs : Codes) : List Operation →
       → Leads May es cs operations xs → May (codes_after cs operations) o xs ys → Leads May es cs (o ∷ operations) ys
 
 abbrev pub KeepsSpansOf : Calls → Type 0
-KeepsSpansOf May = (es xs : List Entry) (cs : Codes) (operations : List Operation) → list_any is_in_use es ≡ false → OnlyWrites cs operations
-    → Leads May es cs operations xs → AllCurrent cs operations xs
+KeepsSpansOf May = (es xs : List Entry) (cs : Codes) (operations : List Operation) → list_any is_in_use es ≡ false
+    → OnlyWrites cs operations → Leads May es cs operations xs → AllCurrent cs operations xs
 
 -- and what a call of find answers may be entered
 abbrev pub FoundMayBeEnteredOf : Finding → Calls → Type 0
@@ -33,6 +33,6 @@ FoundMayBeEnteredOf Finds May = (es xs : List Entry) (cs : Codes) (operations : 
     → OnlyWrites cs operations → Leads May es cs operations xs
     → (j : Key) (e : Entry) → Finds xs j e → MayBeEntered cs operations j e
 
--- such calls can be made: for any list of operations, on any entries and with any codes, there are calls that leave the definition's entries
+-- such calls can be made: for any list of operations, on any entries and with any codes, some calls leave the definition's entries
 abbrev pub CanBeMade : Calls → Type 0
 CanBeMade May = (es : List Entry) (cs : Codes) (operations : List Operation) → Leads May es cs operations (after es cs operations)

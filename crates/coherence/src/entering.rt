@@ -8,12 +8,10 @@ ghost use Rattle.coherence.specs.KeepingInCode.{FoundMayBeEnteredInCode};
 #[tactic(auto, using(crate::proofs::Found::found_may_be_entered))]
 pub fn found_may_be_entered()
     ensures { FoundMayBeEntered }
-{
-}
+{}
 
 // The same of the code: of what `find` answers on entries that calls of `translate`, `insert`, `drop_touched` and `empty` left.
 #[tactic(auto, using(crate::proofs::KeptInCode::found_may_be_entered_in_code))]
 pub fn found_may_be_entered_in_code()
     ensures { FoundMayBeEnteredInCode }
-{
-}
+{}

@@ -8,19 +8,16 @@ ghost use Rattle.coherence.specs.KeepingInCode.{KeepsSpansInCode, CallsCanBeMade
 #[tactic(auto, using(crate::proofs::Kept::keeps_spans))]
 pub fn keeps_spans()
     ensures { KeepsSpans }
-{
-}
+{}
 
 // The same of the code: of any calls of `translate`, `insert`, `drop_touched` and `empty` that meet their contracts.
 #[tactic(auto, using(crate::proofs::KeptInCode::keeps_spans_in_code))]
 pub fn keeps_spans_in_code()
     ensures { KeepsSpansInCode }
-{
-}
+{}
 
 // For any list of operations there are such calls, so the theorems of the code speak of something.
 #[tactic(auto, using(crate::proofs::Reached::calls_can_be_made))]
 pub fn calls_can_be_made()
     ensures { CallsCanBeMade }
-{
-}
+{}

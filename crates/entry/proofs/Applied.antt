@@ -2,14 +2,13 @@
 -- longer serves here.
 use Rattle.std.specs.Prelude.{Option, Some, None, replicate}
 use Rattle.std.specs.List.{list_any}
-use Rattle.std.proofs.Common.{◌≡◌, refl, sym, ap, ◌∙◌, Bool, true, false, true≢false, List, [], ◌∷◌, ℕ, zero, suc, ◌-◌, ◌^◌, arith}
-use Rattle.entry.specs.Index.{free, is_in_use, find, insert_answer, touches}
-use Rattle.entry.specs.History.{Event, Event.inserted, Event.refused, Event.emptied, Event.dropped, last, Operation, Operation.inserts}
+use Rattle.std.proofs.Common.{◌≡◌, refl, ap, Bool, true, false, true≢false, List, [], ◌∷◌, ℕ, zero, suc, ◌-◌, ◌^◌, arith}
+use Rattle.entry.specs.Index.{free, find, insert_answer, touches}
+use Rattle.entry.specs.History.{Event.inserted, Event.refused, Event.emptied, Event.dropped, last, Operation, Operation.inserts}
 use Rattle.entry.specs.History.{Operation.empties, Operation.drops, after, events, showing, ShowsLast, History}
 use Rattle.entry.specs.Laws.{RefusesWhenFull, EmptyTouchesNothing}
 use Rattle.entry.specs.declared.Key.{Key}
 use Rattle.entry.specs.declared.Entry.{Entry}
-use Rattle.entry.specs.declared.NativeBlock.{NativeBlock}
 use Rattle.entry.proofs.LastShown.{history}
 use Rattle.entry.proofs.Refusing.{refuses_when_full}
 use Rattle.entry.proofs.Touching.{empty_touches_nothing}

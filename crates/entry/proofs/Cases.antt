@@ -143,8 +143,8 @@ no_span = refl
 
 -- 3. Drop: two bytes at 1003 are written
 
--- in use: a key twice, the same pc under another satp, one that begins at the second byte, one that ends before the first, one that begins behind the
--- second, and one that spans nothing; not in use: a key that is touched
+-- in use: a key twice, the same pc under another satp, one that begins at the second byte, one that ends before the first, one that begins
+-- behind the second, and one that spans nothing; not in use: a key that is touched
 abbrev blocks : List Entry
 blocks =
     entry 1 1 1000 3 4 5 6 ∷ entry 0 1 1000 7 8 9 6 ∷ entry 7 1 1000 3 4 5 4 ∷ entry 1 2 1000 10 11 12 8 ∷ entry 2 0 1004 13 14 15 2
@@ -176,7 +176,8 @@ none_to_drop = refl
 
 -- 4. Without a slice: the latest first
 
-last_of_two : last (inserted (key 1 2) (block 5 6 7 8) ∷ inserted (key 3 2) (block 7 8 9 10) ∷ inserted (key 1 2) (block 3 4 5 6) ∷ []) (key 1 2)
+last_of_two : last
+    (inserted (key 1 2) (block 5 6 7 8) ∷ inserted (key 3 2) (block 7 8 9 10) ∷ inserted (key 1 2) (block 3 4 5 6) ∷ []) (key 1 2)
     ≡ Some (block 5 6 7 8)
 last_of_two = refl
 
@@ -202,6 +203,7 @@ last_by_its_span : last (dropped 1003 2 ∷ inserted (key 1 1000) (block 7 8 9 3
 unfolding touches
 last_by_its_span = refl
 
-last_inserted_again : last (inserted (key 1 1000) (block 7 8 9 4) ∷ dropped 1003 2 ∷ inserted (key 1 1000) (block 3 4 5 4) ∷ []) (key 1 1000)
+last_inserted_again : last
+    (inserted (key 1 1000) (block 7 8 9 4) ∷ dropped 1003 2 ∷ inserted (key 1 1000) (block 3 4 5 4) ∷ []) (key 1 1000)
     ≡ Some (block 7 8 9 4)
 last_inserted_again = refl

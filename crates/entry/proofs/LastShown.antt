@@ -217,7 +217,8 @@ apart_empty : (es : List Entry) → Apart (empty es)
 apart_empty [] = tt
 apart_empty (e ∷ es) = ((λ u. absurd (true≢false (sym u))), apart_empty es)
 
--- what a drop leaves of what was found; here it counts that keys stand apart: behind the first of two, which goes, the second would be found
+-- what a drop leaves of what was found; here it counts that keys stand apart: behind the first of two, which goes, the second would be
+-- found
 abbrev unless_dropped : ℕ → ℕ → Option Entry → Option Entry
 unless_dropped a n None = None
 unless_dropped a n (Some e) = cond (is_dropped a n e) None (Some e)

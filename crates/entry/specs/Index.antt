@@ -68,7 +68,8 @@ freed e = record { satp = e.satp; pc = e.pc; block = e.block; in_use = 0 }
 abbrev pub empty : List Entry → List Entry
 empty es = map freed es
 
--- 6. Drop: a write of n bytes from an address a on clears the marks of the entries in use that it touches, under every satp, and nothing else
+-- 6. Drop: a write of n bytes from an address a on clears the marks of the entries in use that it touches, under every satp, and nothing
+-- else
 
 -- some number below n passes
 abbrev pub any_below : ℕ → (ℕ → Bool) → Bool

@@ -7,5 +7,4 @@ ghost use Rattle.entry.specs.History.{History};
 #[tactic(auto, using(crate::proofs::LastShown::history))]
 pub fn history()
     ensures { History }
-{
-}
+{}

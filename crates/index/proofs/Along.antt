@@ -35,7 +35,8 @@ preserved_by (drops a n) xs happened p = preserved_drop xs happened p a n
 
 -- 2. The history
 
-module _ (May : Calls) (meets : (o : Operation) (xs : List Entry) (event : Event) (ys : List Entry) → May o xs event ys → Meets o xs event ys) where
+module _ (May : Calls)
+    (meets : (o : Operation) (xs : List Entry) (event : Event) (ys : List Entry) → May o xs event ys → Meets o xs event ys) where
   preserved_along : (es zs : List Entry) (all : List Event) → list_any is_in_use es ≡ false → Leads May es all zs → Preserved zs all
   preserved_along es zs all h begin = preserved_start es h
   preserved_along es zs all h (Of.Leads.then {o} {event} {happened} {xs} {ys} led call) =

@@ -1,7 +1,7 @@
 -- The theorem of the code applied to the operations of crate entry's example (its proofs/Applied), by calls that can be made.
 use Rattle.std.specs.Prelude.{Option, Some, None}
-use Rattle.std.proofs.Common.{◌≡◌, refl, List, [], ◌∷◌, ℕ, arith}
-use Rattle.entry.specs.Index.{blank, touches}
+use Rattle.std.proofs.Common.{◌≡◌, refl, [], ℕ, arith}
+use Rattle.entry.specs.Index.{touches}
 use Rattle.entry.specs.History.{after, events}
 use Rattle.entry.specs.declared.Entry.{Entry}
 use Rattle.entry.proofs.Applied.{top, three, filled, written, ended, many, fill}

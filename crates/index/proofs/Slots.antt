@@ -8,7 +8,8 @@ use Rattle.entry.specs.declared.Entry.{Entry}
 use Rattle.entry.specs.declared.NativeBlock.{NativeBlock}
 use Rattle.entry.proofs.Scans.{found_at, found_nowhere, set_over, over_none}
 use Rattle.index.specs.Answers.{Inserts}
-use Rattle.index.specs.declared.Full.{Full}
+use Rattle.index.specs.declared.Refusal.{Refusal}
+use Rattle.index.specs.declared.Refusal.TheVariants.{Full}
 
 module _ (es : List Entry) (k : Key) where
   pub slot_held : (i : ℕ) → Some i ≡ position (holds k) es → Some i ≡ position (taken es k) es
@@ -30,8 +31,8 @@ module _ (es : List Entry) (k : Key) where
               ap (set es i) f ∙ ap (λ (j : ℕ). set es j (renewed k b (get_or es j d))) a.first ∙ set_over p (renewed k b) d es;
         }
 
-    pub put_off : (o : Option ℕ) (r : Full) → o ≡ None → o ≡ position (taken es k) es → Inserts es es k b (Err r)
-    put_off o r n e =
+    pub put_off : (o : Option ℕ) (r : Refusal) → o ≡ None → o ≡ position (taken es k) es → Inserts es es k b (Err r)
+    put_off o Full n e =
         let p : Entry → Bool = taken es k in
         let a : list_any p es ≡ false = found_nowhere p es (sym e ∙ n) in
         record { answers = rw a; leaves = sym (over_none p (renewed k b) es a) }

@@ -4,19 +4,20 @@ use Rattle.entry.specs.Index.{find, insert_answer, insert, empty, drop_touched, 
 use Rattle.entry.specs.declared.Key.{Key}
 use Rattle.entry.specs.declared.Entry.{Entry}
 use Rattle.entry.specs.declared.NativeBlock.{NativeBlock}
-use Rattle.index.specs.declared.Full.{Full}
+use Rattle.index.specs.declared.Refusal.{Refusal}
+use Rattle.index.specs.declared.Refusal.TheVariants.{Full}
 
 -- the answer is the definition's
 abbrev pub Finds : List Entry → Key → Option Entry → Type 0
 Finds es k r = r ≡ find es k
 
 -- insert's number and values: the index, or 8
-abbrev pub numbered : Result ℕ Full → ℕ × List ℕ
+abbrev pub numbered : Result ℕ Refusal → ℕ × List ℕ
 numbered (Ok i) = (0, i ∷ [])
-numbered (Err e) = (8, [])
+numbered (Err Full) = (8, [])
 
 -- the answer, and every entry afterwards, are the definition's
-pub record Inserts (es es' : List Entry) (k : Key) (b : NativeBlock) (r : Result ℕ Full) : Type 0 where
+pub record Inserts (es es' : List Entry) (k : Key) (b : NativeBlock) (r : Result ℕ Refusal) : Type 0 where
   pub answers : numbered r ≡ insert_answer es k
   pub leaves : es' ≡ insert es k b
 

@@ -24,7 +24,8 @@ pub data Leads (May : Calls) (es : List Entry) : List Event → List Entry → T
       → Leads May es happened xs → May o xs event ys → Leads May es (event ∷ happened) ys
 
 -- whatever a call of find then answers is what was last inserted, or none, in the function's words
-pub record ShowsLastOf {Answer : Type 0} (Finds : Finding Answer) (told : Option Entry → Answer) (xs : List Entry) (happened : List Event) : Type 0 where
+pub record ShowsLastOf {Answer : Type 0} (Finds : Finding Answer) (told : Option Entry → Answer) (xs : List Entry) (happened : List Event)
+    : Type 0 where
   pub shows : (k : Key) (r : Answer) → Finds xs k r → r ≡ told (showing k (last happened k))
   pub distinct : Distinct xs
 
@@ -32,8 +33,8 @@ abbrev pub HistoryOf : {Answer : Type 0} → Finding Answer → (Option Entry �
 HistoryOf Finds told May = (es xs : List Entry) (happened : List Event) → list_any is_in_use es ≡ false → Leads May es happened xs
     → ShowsLastOf Finds told xs happened
 
--- such calls can be made: for any list of operations, on any entries, there are calls that tell and leave what the definitions say, and find
--- answers for any key
+-- such calls can be made: for any list of operations, on any entries, there are calls that tell and leave what the definitions say, and
+-- find answers for any key
 pub record CanBeMade {Answer : Type 0} (Finds : Finding Answer) (May : Calls) : Type 0 where
   pub operations : (es : List Entry) (operations : List Operation) → Leads May es (events es operations) (after es operations)
   pub find : (xs : List Entry) (k : Key) → (r : Answer) × Finds xs k r

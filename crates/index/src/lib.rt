@@ -12,9 +12,11 @@ ghost use Rattle.index.specs.Answers.{Finds, Inserts, Empties, Drops};
 use entry::{Entry, Key, NativeBlock};
 use store::NativeCodeCache;
 
-// Document 02, Q-4, number 8: the key is new and every entry is in use.
+// Why a block is not inserted, by its number in docs/SCOPE.md, "Replies": the key is new and every entry is in use.
 #[derive(Clone, Copy, PartialEq, Eq)]
-pub struct Full;
+pub enum Refusal {
+    Full = 8,
+}
 
 // The first entry in use that has the key.
 pub fn find(entries: &[Entry], key: Key) -> Option<Entry>
@@ -61,10 +63,10 @@ fn renew(old: Entry, key: Key, block: NativeBlock) -> Entry
 }
 
 // Over the entry in use that has the key, where there is one; a new key takes the first entry not in use.
-pub fn insert(entries: &mut [Entry], key: Key, block: NativeBlock) -> Result<usize, Full>
+pub fn insert(entries: &mut [Entry], key: Key, block: NativeBlock) -> Result<usize, Refusal>
     ensures { Inserts entries.old entries.new key block result }
 {
-    let index = slot_for(entries, key).ok_or(Full)?;
+    let index = slot_for(entries, key).ok_or(Refusal::Full)?;
     entries[index] = renew(entries[index], key, block);
     Ok(index)
 }

@@ -4,7 +4,7 @@ ghost use Rattle.requests.specs.Lines.{is_placing};
 
 use crate::output::Output;
 use std::io::Write;
-use store::{NativeCodeCache, Placed, Refused};
+use store::{NativeCodeCache, Placed, Refusal};
 
 // Another period than the store's pattern has, so that code at a wrong offset is seen.
 fn fill_code(code: &mut [u8]) {
@@ -20,7 +20,7 @@ fn is_copied(store: &[u8], offset: usize, code: &[u8]) -> bool {
 
 // Prints the answer; whether the store and the mark are then as they must be.
 fn print_answer<W: Write>(
-    answer: Result<Placed, Refused>,
+    answer: Result<Placed, Refusal>,
     used: usize,
     mark: usize,
     code: &[u8],

@@ -1,1 +1,2 @@
 pub mod PlacingLaws
+pub mod Applied

@@ -8,8 +8,8 @@ use Rattle.agreement.proofs.Laws.Values.{second_value, differ}
 use Rattle.std.specs.Prelude.{Result, Ok, Err}
 use Rattle.store.specs.Places.{Places, Allocates, answered}
 use Rattle.store.specs.declared.Placed.{Placed}
-use Rattle.store.specs.declared.Refused.{Refused}
-use Rattle.store.specs.declared.Refused.TheVariants.{Beyond, Full}
+use Rattle.store.specs.declared.Refusal.{Refusal}
+use Rattle.store.specs.declared.Refusal.TheVariants.{Beyond, Full}
 
 -- 1. The definition, by its tests in their order
 
@@ -29,7 +29,7 @@ rounded used = omega arith
 
 -- 2. The answers
 
-named : {code before after : List ℕ} {used : ℕ} {r : Result Placed Refused} (p : Definition.Placing)
+named : {code before after : List ℕ} {used : ℕ} {r : Result Placed Refusal} (p : Definition.Placing)
     → place (length code) (length before) used ≡ p → answered r ≡ placing_numbered p → after ≡ store_after p code before
     → Places code used before after r
 named {code = code} {before = before} p e a l = record {
@@ -72,7 +72,7 @@ mark_placed beyond r used e = differ e (λ n. omega arith)
 mark_placed full r used e = differ e (λ n. omega arith)
 
 -- where it was refused, the mark stays
-pub mark_kept : (p : Definition.Placing) (r : Refused) (used : ℕ) → answered (Err r) ≡ placing_numbered p → used ≡ mark_after p used
+pub mark_kept : (p : Definition.Placing) (r : Refusal) (used : ℕ) → answered (Err r) ≡ placing_numbered p → used ≡ mark_after p used
 unfolding placing_numbered mark_after
 mark_kept (placed offset mark) Beyond used e = differ e (λ n. omega arith)
 mark_kept (placed offset mark) Full used e = differ e (λ n. omega arith)
@@ -83,6 +83,6 @@ pub moves : {code before after : List ℕ} {used : ℕ} {r : Placed} → Places 
     → Allocates code used r.mark before after (Ok r)
 moves {used = used} {r = r} h = record { places = h; moves = mark_placed _ r used h.answers }
 
-pub keeps : {code before after : List ℕ} {used : ℕ} {e : Refused} → Places code used before after (Err e)
+pub keeps : {code before after : List ℕ} {used : ℕ} {e : Refusal} → Places code used before after (Err e)
     → Allocates code used used before after (Err e)
 keeps {used = used} {e = e} h = record { places = h; moves = mark_kept _ e used h.answers }

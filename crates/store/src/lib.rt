@@ -11,9 +11,9 @@ pub struct Placed {
     pub mark: usize,
 }
 
-// Why code is not placed, by document 01's numbers ("Replies"): the mark is beyond the store, or the code does not fit behind it.
+// Why code is not placed, by its numbers in docs/SCOPE.md, "Replies": the mark is beyond the store, or the code does not fit behind it.
 #[derive(Clone, Copy, PartialEq, Eq)]
-pub enum Refused {
+pub enum Refusal {
     Beyond = 6,
     Full = 7,
 }
@@ -27,17 +27,17 @@ pub struct NativeCodeCache {
 
 // The code goes behind the mark, rounded up to a multiple of 4; all else in the store stays. What is free is compared with what is needed,
 // so no sum can wrap.
-pub fn place(code: &[u8], store: &mut [u8], used: usize) -> Result<Placed, Refused>
+pub fn place(code: &[u8], store: &mut [u8], used: usize) -> Result<Placed, Refusal>
     ensures { Places code.now used store.old store.new result }
 {
     if store.len() < used {
-        return Err(Refused::Beyond);
+        return Err(Refusal::Beyond);
     }
     let over = used % 4;
     let pad = (4 - over) % 4;
     let free = store.len() - used;
     if free < pad || free - pad < code.len() {
-        return Err(Refused::Full);
+        return Err(Refusal::Full);
     }
     let offset = used + pad;
     let mark = offset + code.len();
@@ -47,7 +47,7 @@ pub fn place(code: &[u8], store: &mut [u8], used: usize) -> Result<Placed, Refus
 
 impl NativeCodeCache {
     // The mark moves where the code was placed.
-    pub fn alloc(&mut self, code: &[u8], store: &mut [u8]) -> Result<Placed, Refused>
+    pub fn alloc(&mut self, code: &[u8], store: &mut [u8]) -> Result<Placed, Refusal>
         ensures { Allocates code.now self.old.used self.new.used
             store.old store.new result }
     {

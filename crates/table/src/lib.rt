@@ -5,7 +5,7 @@
 ghost use Rattle.std.specs.Prelude.{◌≤◌};
 
 use entry::{Entry, Key, NativeBlock};
-use index::Full;
+use index::Refusal;
 use store::NativeCodeCache;
 
 // An array with its count, and no `Vec`: no program allocates.
@@ -58,7 +58,7 @@ impl Table {
 
     // The first n entries take the block, or are full; the others stay. Here, in `empty` and in `drop_touched` the array is copied and
     // stored back: where the struct has a ghost field, its array can't be lent from behind a `&mut`.
-    pub fn insert(&mut self, key: Key, block: NativeBlock) -> Result<usize, Full>
+    pub fn insert(&mut self, key: Key, block: NativeBlock) -> Result<usize, Refusal>
         ensures { AtFront self.old self.new (λ es es'. Inserts es es' key block result) }
     {
         let mut entries = self.entries;

@@ -8,7 +8,8 @@ overflow_add-dropped c = omega (arith, few_dropped _ _ _ _ _ _ c.loop-entry.inva
 
 pub loop-entry-preserved : goal.loop-entry-preserved
 loop-entry-preserved c =
-    let at_entry = one_dropped c.args.entries.now c.loop-entry.entries c.if-is_dropped.entries c.loop-entry.entry-index _ c.loop-entry-test.true in
+    let at_entry =
+    one_dropped c.args.entries.now c.loop-entry.entries c.if-is_dropped.entries c.loop-entry.entry-index _ c.loop-entry-test.true in
     let next =
     at_entry c.loop-entry.auto.entries c.args.address c.args.n c.loop-entry.dropped c.if-is_dropped.dropped c.loop-entry.invariant in
     elim c.if-is_dropped.branch [

@@ -7,7 +7,8 @@ use Rattle.index.proofs.insert.Goals as goal
 pub returns-in_err-index : goal.returns-in_err-index
 returns-in_err-index c =
     let n : c.slot_for.result ≡ None = grind (arith, c.ok_or.ensures.value, c.in_err-index.was) in
-    rw (err_from_is_err_and c.from_residual.result c.from_residual.ensures.1).1 (put_off c.args.entries.now c.args.key c.args.block _ _ n c.slot_for.ensures)
+    rw (err_from_is_err_and c.from_residual.result c.from_residual.ensures.1).1
+    (put_off c.args.entries.now c.args.key c.args.block _ _ n c.slot_for.ensures)
 
 pub returns : goal.returns
 returns c =

@@ -11,7 +11,8 @@ returns c =
     let all = c.args.self.now.entries in
     let left = c.drop_touched-answer.new.entries in
     let size : length left ≡ n = omega (arith, length-take-le n all (omega arith)) in
-    let front : take n (left ++ drop n all) ≡ left = ap (λ (k : ℕ). take k (left ++ drop n all)) (sym size) ∙ take-append_seam left (drop n all) in
+    let front : take n (left ++ drop n all) ≡ left =
+    ap (λ (k : ℕ). take k (left ++ drop n all)) (sym size) ∙ take-append_seam left (drop n all) in
     record {
       size = refl;
       front = rw front c.drop_touched-answer.ensures;
