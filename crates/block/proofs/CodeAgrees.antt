@@ -1,4 +1,5 @@
--- A run of the code is a history of crate agreement, and the other way round, where what is learned is the reply, and the reply can be learned.
+-- A run of the code is a history of crate agreement, and the other way round, where what is learned is the reply, and the reply can be
+-- learned.
 use Rattle.std.proofs.Common.{◌≡◌, refl, sym, ◌∙◌, subst, List, ℕ, arith, length, Ok, Err}
 use Rattle.agreement.specs.Translation.Replies.{Reply, numbered, output_after}
 use Rattle.agreement.specs.Translation.Replies.Reply.{block, refusal}

@@ -9,7 +9,7 @@ use Rattle.emitter.specs.Written.{Writes}
 use Rattle.emitter.specs.declared.X64Emitter.{X64Emitter}
 use Rattle.words.proofs.Joined.{joined}
 use Rattle.walk.specs.Walks.{Walks, Closes, end_as}
-use Rattle.walk.specs.declared.walk.Walked.{Walked}
+use Rattle.walk.specs.declared.run.Walked.{Walked}
 use Rattle.block.specs.Answers.{Compiles}
 
 pub compiled : {e f g h : X64Emitter} {w : Walked} {count : ℕ} {before : List ℕ} (helper16 helper_mem : ℕ) (p : Translation.Walked)

@@ -1,5 +1,5 @@
--- The code's agreement of kept blocks applied: to three turns behind whose blocks the code has changed (crate agreement, Checks/KeptBlocks), and
--- to five from a pc 8 below 2^64, whose code is as it was. What the theorem says of any run of the code is used.
+-- The code's agreement of kept blocks applied: to three turns behind whose blocks the code has changed (crate agreement,
+-- Checks/KeptBlocks), and to five from a pc 8 below 2^64, whose code is as it was. What the theorem says of any run of the code is used.
 use Rattle.std.proofs.Common.{List, [], ◌∷◌, ◌∙◌, ◌≡◌, ap, refl, subst, sym, zero, suc, ◌*◌, ◌≤◌, ℕ, arith, length}
 use Rattle.std.specs.Prelude.{Option, None, Some}
 use Rattle.agreement.specs.Laws.{Spans}
@@ -92,7 +92,9 @@ five_asked = met five_turns (start first_pc zeros) zeros (omega arith) (λ r k. 
 
 five : AgreesNowBy Translated first_pc zeros (sames five_turns)
 unfolding read turns
-five = agreement_of_kept_in_code first_pc zeros (sames five_turns) (omega arith) refl five_asked (along five_turns first_pc zeros five_asked)
+five =
+    agreement_of_kept_in_code first_pc zeros (sames five_turns) (omega arith) refl five_asked
+    (along five_turns first_pc zeros five_asked)
 
 pub record EndOfFive (es : List Event) (p : ℕ) (b : RegisterBytes) : Type 0 where
   pub on_the_way : FiveTurns es (after first_pc zeros five_turns es)
@@ -100,8 +102,8 @@ pub record EndOfFive (es : List Event) (p : ℕ) (b : RegisterBytes) : Type 0 wh
   pub x10 : read 8 b (8 * 10) ≡ 9
   pub now_pc : (manual (feeds_now (sames five_turns) es) (start first_pc zeros)).pc ≡ 0x80000031
 
-pub end_of_five : {learns : Learning} (a : AgreesNowBy learns first_pc zeros (sames five_turns)) (es : List Event) (p : ℕ) (b : RegisterBytes)
-    → Run learns first_pc zeros five_turns es p b → EndOfFive es p b
+pub end_of_five : {learns : Learning} (a : AgreesNowBy learns first_pc zeros (sames five_turns))
+    (es : List Event) (p : ℕ) (b : RegisterBytes) → Run learns first_pc zeros five_turns es p b → EndOfFive es p b
 unfolding turns
 end_of_five a es p b r =
     let g = a.now.agrees in

@@ -1,3 +1,4 @@
+mod Calls
 pub mod CallerReadsReply
 pub mod CodeAgrees
 pub mod Compiled

@@ -1,6 +1,6 @@
--- The code's agreement applied to the lists of crate agreement (Checks): three and five turns from a pc 8 below 2^64, with a refused one and
--- calls of both helpers; four, between which the code changes; and two at the last pc of all, with full registers. What the theorem says of any
--- run of the code is used.
+-- The code's agreement applied to the lists of crate agreement (Checks): three and five turns from a pc 8 below 2^64, with a refused one
+-- and calls of both helpers; four, between which the code changes; and two at the last pc of all, with full registers. What the theorem
+-- says of any run of the code is used.
 use Rattle.std.proofs.Common.{cond, true, List, [], ◌∷◌, ◌∙◌, ◌≡◌, refl, subst, sym, ◌*◌, ◌<◌, ◌^◌, ℕ, arith, ltb, Err}
 use Rattle.agreement.specs.Riscv.Run.{GuestState}
 use Rattle.agreement.specs.Translation.Replies.{numbered, output_after, translate, Refusal.limit_zero, Reply.refusal}
@@ -36,7 +36,8 @@ four : AgreesBy Translated 0x80000008 zeros four_turns
 unfolding read
 four = agreement_in_code 0x80000008 zeros four_turns (omega arith) refl (asked 0x80000008 four_turns (omega arith) four_met)
 
--- 2. What it says of a run, however replies are learned and whichever it is: where it ends, and that along it each turn is as the manual has it
+-- 2. What it says of a run, however replies are learned and whichever it is: where it ends, and that along it each turn is as the manual
+-- has it
 
 pub record EndOfThree (es : List Event) (p : ℕ) (b : RegisterBytes) : Type 0 where
   pub on_the_way : Three es (after first_pc zeros three_turns es)
@@ -106,8 +107,8 @@ end_of_four a es p b r =
 run_of_four : EndOfFour four.agrees.events four.agrees.pc' four.agrees.rb'
 run_of_four = end_of_four four _ _ _ four.runs.run
 
--- 3. Two calls at the last pc, each answered that the limit is 0, x1 to x31 being 2^64 - 1: a run that is written out, and it is the one that
--- the theorem has
+-- 3. Two calls at the last pc, each answered that the limit is 0, x1 to x31 being 2^64 - 1: a run that is written out, and it is the one
+-- that the theorem has
 
 abbrev pub last_pc : ℕ
 last_pc = 0xFFFFFFFFFFFFFFFF

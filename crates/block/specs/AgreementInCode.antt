@@ -1,6 +1,7 @@
--- The agreement of the code: lists of turns in which each reply is what a caller learned of a call, then or earlier, and each entry one of what
--- that call left. `Turned` and `History` of crate agreement (Statement/Machine) take a turn's reply from the definition; here nothing is known of
--- it but what the called function's contract allows. Stated once, for every way to learn replies; of the library below, of C in crate capi.
+-- The agreement of the code: lists of turns in which each reply is what a caller learned of a call, then or earlier, and each entry one
+-- of what that call left. `Turned` and `History` of crate agreement (Statement/Machine) take a turn's reply from the definition; here
+-- nothing is known of it but what the called function's contract allows. Stated once, for every way to learn replies; of the library
+-- below, of C in crate capi.
 use Rattle.std.specs.Prelude.{◌≡◌, List, [], ◌∷◌, ℕ, ◌^◌, ◌<◌}
 use Rattle.agreement.specs.X86.Memory as Memory
 use Rattle.agreement.specs.X86.Form.{RAX}

@@ -64,7 +64,7 @@ fn compile_native_block(
 {
     let mut em = X64Emitter::new(out);
     words::x64_emit_prologue(&mut em);
-    let walked = walk::walk::emit_words(&mut em, halfwords, start, steps);
+    let walked = walk::emit_words(&mut em, halfwords, start, steps);
     let count = walk::close::close(&mut em, walked.end, walked.emitted, helpers);
     Block {
         length: em.at,
@@ -73,6 +73,15 @@ fn compile_native_block(
     }
 }
 
+// A run of halfwords, fetched from `start` on, becomes a block at the front of `out`: of its first `limit` instructions, 64 at most, or
+// of as many as there are up to the first that ends a block, is not taken or is not whole. The answer says how long the block is. Calls
+// of the two helpers go to the addresses given, which may be any.
+//
+// There is none, tried in this order: where the limit is 0, `LimitZero`; where the start is odd, `OddStart`; where the first instruction
+// is not whole, `Missing`, with the index of the first halfword that would have to be fetched; where it is a word that is not taken,
+// `NotTaken`, with that word; where the output has fewer than 4,099 bytes, whatever the block would need, `OutputShort`.
+//
+// All bytes of the output behind the block are as before, and all of it is where there is none.
 pub fn translate(
     start: u64,
     limit: u32,

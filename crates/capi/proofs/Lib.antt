@@ -4,3 +4,4 @@ pub mod Applied
 pub mod AppliedKept
 pub mod ReadInC
 mod TurnsWitness
+mod Calls

@@ -1,5 +1,5 @@
--- The agreement of `emuko_translate` applied as crate block applies its own (Witness, KeptWitness): to three and to five turns from a pc 8 below
--- 2^64, to two at the last pc with full registers, and to kept blocks behind which the code has changed.
+-- The agreement of `emuko_translate` applied as crate block applies its own (Witness, KeptWitness): to three and to five turns from a pc
+-- 8 below 2^64, to two at the last pc with full registers, and to kept blocks behind which the code has changed.
 use Rattle.std.proofs.Common.{[], ◌∷◌, ◌≡◌, refl, List, ℕ, arith}
 use Rattle.agreement.specs.Translation.Replies.{numbered, output_after, translate, Refusal.limit_zero, Reply.refusal}
 use Rattle.agreement.specs.X86.Memory.{read}
@@ -69,7 +69,9 @@ kept_run_of_three = Kept.end_of_three kept_three _ _ _ kept_three.runs.run
 
 kept_five : AgreesNowBy Replied first_pc zeros (sames five_turns)
 unfolding read turns
-kept_five = agreement_of_kept_in_c first_pc zeros (sames five_turns) (omega arith) refl five_asked (along five_turns first_pc zeros five_asked)
+kept_five =
+    agreement_of_kept_in_c first_pc zeros (sames five_turns) (omega arith) refl five_asked
+    (along five_turns first_pc zeros five_asked)
 
 kept_run_of_five : Kept.EndOfFive kept_five.now.agrees.events kept_five.now.agrees.pc' kept_five.now.agrees.rb'
 unfolding turns

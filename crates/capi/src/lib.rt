@@ -56,9 +56,9 @@ impl From<Result<Block, block::Refusal>> for Reply {
     }
 }
 
-// Which rules the blocks follow, a number that grows with every change to them (document 02, Q-6). A caller that has an index of blocks made
-// under others, or does not know under which, empties it, once, before its next use: what it finds there may be another block than the one
-// that its run is translated to now, as that of a run with a compressed instruction is.
+// Which rules the blocks follow, a number that grows with every change to them (document 02, Q-6). A caller that has an index of blocks
+// made under others, or does not know under which, empties it, once, before its next use: what it finds there may be another block than
+// the one that its run is translated to now, as that of a run with a compressed instruction is.
 #[unsafe(no_mangle)]
 pub extern "C" fn emuko_rules() -> u32
     ensures { result ≡ rules }

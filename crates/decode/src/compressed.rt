@@ -1,7 +1,8 @@
 // Compressed halfwords (RV64C): the 32-bit word that one is translated as, or none where it goes to the 16-bit helper. The Rust has no such
-// step. Each field is moved to its place in the word at once, a sign bit times the ones that it stands for, and 0x8080 puts a register at rd
-// and at rs1: so a word is a sum of products. The scrambled bits of an immediate are joined from the highest on, one to the next: as one
-// sum of many products they take longer, since the compiler then multiplies them as a vector. All is inlined, for it runs for each halfword.
+// step. Each field is moved to its place in the word at once, a sign bit times the ones that it stands for, and 0x8080 puts a register at
+// rd and at rs1: so a word is a sum of products. The scrambled bits of an immediate are joined from the highest on, one to the next: as
+// one sum of many products they take longer, since the compiler then multiplies them as a vector. All is inlined, for it runs for each
+// halfword.
 ghost use Rattle.std.specs.Prelude.{◌≡◌, ◌<◌};
 ghost use Rattle.agreement.specs.Riscv.Run.{in_line};
 ghost use Rattle.agreement.specs.Translation.Decode16 as Decode16;
@@ -172,8 +173,8 @@ fn moves(h: u32) -> Option<u32>
     }
 }
 
-// The word of a halfword that is translated in line, by funct3 above the low two bits, which say the quadrant. Where no arm fits, the halfword
-// is a load, a store or reserved, or its low bits are those of a longer instruction.
+// The word of a halfword that is translated in line, by funct3 above the low two bits, which say the quadrant. Where no arm fits, the
+// halfword is a load, a store or reserved, or its low bits are those of a longer instruction.
 #[inline(always)]
 pub fn expand(halfword: u16) -> Option<u32>
     ensures { result ≡ in_line halfword }

@@ -1,5 +1,5 @@
-// A register of the guest, x0 to x31 (RISC-V Unprivileged manual, "Programmers' Model for Base Integer ISA"), by its number. A clause sees the
-// number.
+// A register of the guest, x0 to x31 (RISC-V Unprivileged manual, "Programmers' Model for Base Integer ISA"), by its number. A clause
+// sees the number.
 ghost use Rattle.std.specs.Prelude.{◌≡◌, ◌<◌, ◌==◌};
 
 use std::marker::Model;

@@ -4,8 +4,8 @@
 // output at exit is the output at entry with exactly the bytes of the instruction (crate agreement, X86/Encode) at the emitter's place,
 // which moves behind them.
 // Immediates and displacements are unsigned in two's complement.
-// What writes is inlined, here and in the crates above, up to the function that translates: where the emitter stands in memory, a byte that is
-// written may be its place for all the compiler knows, and translating took five times as long (docs/PERFORMANCE.md).
+// What writes is inlined, here and in the crates above, up to the function that translates: where the emitter stands in memory, a byte
+// that is written may be its place for all the compiler knows, and translating took five times as long (docs/PERFORMANCE.md).
 #![tactic(auto)]
 
 mod args;
@@ -468,7 +468,8 @@ impl<'a> X64Emitter<'a> {
         self.form_bare(forms::RET, Width::R32);
     }
 
-    // RDX:RAX becomes RAX times a register, IMUL of signed numbers; or RAX and RDX become quotient and remainder of RDX:RAX, IDIV of signed.
+    // RDX:RAX becomes RAX times a register, IMUL of signed numbers; or RAX and RDX become quotient and remainder of RDX:RAX, IDIV of
+    // signed.
     #[inline(always)]
     pub fn mul_div(&mut self, w: Width, op: MulDiv, reg: Gpr)
         requires { HasRoom self.old (length (encode (mul_div (width_of w) (mul_div_of op) reg))) }

@@ -5,8 +5,8 @@ ghost use Rattle.kind.specs.Family.{FamilyOf, class_of};
 use crate::WordKind;
 use decode::isa;
 
-// Which words are taken: for each class of funct7 eight bits that say which funct3 are, the lowest for funct3 0. The kind of those that are;
-// and which funct3 end the block instead, eight bits.
+// Which words are taken: for each class of funct7 eight bits that say which funct3 are, the lowest for funct3 0. The kind of those that
+// are; and which funct3 end the block instead, eight bits.
 #[derive(Clone, Copy)]
 pub struct Family {
     pub kind: WordKind,

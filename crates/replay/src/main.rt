@@ -21,11 +21,11 @@
 //         every entry, as find shows it, a blank between two
 //
 // I lines ask an index of blocks that is kept from line to line: `new` makes one of n entries of zeros, 64 at most, and `set` writes one of
-// them as a caller would; a `set` of one that is not there is no request. `drop` tells of a write of n bytes from an address on. Other numbers
-// are decimal. A line that is no request, or has over 8,192 bytes, or asks for lent bytes of over 65,536, gets `bad request`, and the program
-// goes on. Where lent bytes or a mark changed that must not, or a cleared mark is not 0, `touched` is behind the reply. Each line is answered
-// as it comes, so that another program can ask and wait for the reply. Where the input cannot be read or a reply cannot be written, the
-// program ends with an error.
+// them as a caller would; a `set` of one that is not there is no request. `drop` tells of a write of n bytes from an address on. Other
+// numbers are decimal. A line that is no request, or has over 8,192 bytes, or asks for lent bytes of over 65,536, gets `bad request`, and
+// the program goes on. Where lent bytes or a mark changed that must not, or a cleared mark is not 0, `touched` is behind the reply. Each
+// line is answered as it comes, so that another program can ask and wait for the reply. Where the input cannot be read or a reply cannot
+// be written, the program ends with an error.
 #![tactic(auto)]
 
 mod decoding;

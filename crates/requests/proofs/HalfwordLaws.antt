@@ -32,7 +32,8 @@ module _ {room : ℕ} {start : Fields} {lent : List ℕ} {n : ℕ} {here : Field
       with_it : take (n + 1) (set lent n value) ≡ take n lent ++ (value ∷ [])
       with_it = rw add-one (take-suc-set lent n value (omega (arith, read.size)))
 
-      pub at_the_end : length behind.line.now ≤ behind.at → Reads (list_at room start.line.now start.at []) (set lent n value) (Some (n + 1))
+      pub at_the_end : length behind.line.now ≤ behind.at
+          → Reads (list_at room start.line.now start.at []) (set lent n value) (Some (n + 1))
       unfolding list_at
       at_the_end p =
           let end : length here.line.now ≤ behind.at = rw (← halfword.line) p in
@@ -51,11 +52,13 @@ module _ {room : ℕ} {start : Fields} {lent : List ℕ} {n : ℕ} {here : Field
             let none : None ≡ word_at (44 ∷ []) here.line.now behind.at = rw (← halfword.line) p in
             rw (read.list, one_more, ← halfword.field, lt-leb (length here.line.now) behind.at go_on, ← none)
 
-        pub at_a_comma : {next : Fields} → Passes (word_at (44 ∷ [])) behind next (Some tt) → Read room start (set lent n value) (n + 1) next
+        pub at_a_comma : {next : Fields} → Passes (word_at (44 ∷ [])) behind next (Some tt)
+            → Read room start (set lent n value) (n + 1) next
         unfolding list_at
         at_a_comma {next} comma =
             let line : next.line ≡ here.line = comma.line ∙ halfword.line in
-            let there : Some (record { value = tt; next = next.at }) ≡ word_at (44 ∷ []) here.line.now behind.at = rw (← halfword.line) comma.field in
+            let there : Some (record { value = tt; next = next.at }) ≡ word_at (44 ∷ []) here.line.now behind.at =
+                rw (← halfword.line) comma.field in
             record {
               size = length-set lent n value ∙ read.size;
               line = line ∙ read.line;

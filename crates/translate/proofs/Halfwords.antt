@@ -18,7 +18,8 @@ each (a ∷ b ∷ l) (suc i) h =
     let m : List ℕ = a ∷ b ∷ l in
     each l i (omega arith)
     ∙ sym (
-    ap (λ (k : ℕ). get_or m k 0 + 256 * get_or m (2 * suc i + 1) 0) e ∙ ap (λ (k : ℕ). get_or m (suc (suc (2 * i))) 0 + 256 * get_or m k 0) f
+    ap (λ (k : ℕ). get_or m k 0 + 256 * get_or m (2 * suc i + 1) 0) e
+    ∙ ap (λ (k : ℕ). get_or m (suc (suc (2 * i))) 0 + 256 * get_or m k 0) f
     )
 
 -- one halfword more

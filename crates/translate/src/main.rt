@@ -16,8 +16,8 @@ fn low_and_high(low: u8, high: u8) -> u16
     u16::from_le_bytes([low, high])
 }
 
-// The halfwords of the code, little-endian, and how many they are. By index: over `iter_mut().zip(chunks_exact(2))`, for which std has no law,
-// the proof did not close.
+// The halfwords of the code, little-endian, and how many they are. By index: over `iter_mut().zip(chunks_exact(2))`, for which std has no
+// law, the proof did not close.
 fn read_halfwords(code: &[u8], halfwords: &mut [u16]) -> usize
     requires { length code.now ≤ 2 * length halfwords.old }
     ensures halfwords_after { take result halfwords.new ≡ halfwords_of code.now }

@@ -13,7 +13,7 @@ use Rattle.words.specs.declared.X64EmitFlow.TheVariants.{Continue, Terminate, St
 use Rattle.walk.specs.Fetch.{fetched, instr_of, to_translate}
 use Rattle.walk.specs.declared.fetch.Fetched.{Fetched}
 use Rattle.walk.specs.Walks.{Walks}
-use Rattle.walk.specs.declared.walk.Walked.{Walked}
+use Rattle.walk.specs.declared.run.Walked.{Walked}
 use Rattle.walk.specs.declared.fetch.Missing.{Missing}
 use Rattle.walk.proofs.WalkStep.{at_none, at_missing, at_half, at_word, at_most_two, behind, follows}
 use Rattle.words.proofs.WalkWords.{by_flow}
@@ -61,7 +61,8 @@ module _ {steps start : ℕ} {hs : List ℕ} {e₀ e : X64Emitter} {pc n k : ℕ
     left z = omega (arith, h, z)
 
     at : {t : Option X64EmitFlow} → flow ≡ t → walk (steps - n) pc (drop k hs)
-        ≡ by_flow t (2 * m) (word_as (kind i) (2 * m) pc i).code (wrapping_add pc (2 * m)) (end_at (kind i) pc i) (follows (steps - n - 1) pc (drop k hs) m)
+        ≡ by_flow t (2 * m) (word_as (kind i) (2 * m) pc i).code (wrapping_add pc (2 * m)) (end_at (kind i) pc i)
+            (follows (steps - n - 1) pc (drop k hs) m)
     at t = at_word (steps - n) pc (drop k hs) left F I (sym E.flows ∙ t)
 
     pub going_on : flow ≡ Some Continue → Walking steps start hs e₀ f (wrapping_add pc (2 * m)) (n + 1) (k + m)

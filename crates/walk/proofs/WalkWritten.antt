@@ -15,7 +15,7 @@ use Rattle.words.specs.declared.X64EmitFlow.{X64EmitFlow}
 use Rattle.words.proofs.Joined.{joined}
 use Rattle.walk.specs.Walks.{Walks, end_as, most, walked_of}
 use Rattle.walk.specs.declared.close.End.{End}
-use Rattle.walk.specs.declared.walk.Walked.{Walked}
+use Rattle.walk.specs.declared.run.Walked.{Walked}
 
 -- the same walk by another name
 pub named : {e f : X64Emitter} {n k : ℕ} {p q : Translation.Walked} {r : Walked} → p ≡ q → Walks e n k q f r → Walks e n k p f r

@@ -1,5 +1,5 @@
--- What stands at the front of a run of halfwords, as the walk of crate agreement (Translation/Walk) takes it apart, and what it is translated
--- as.
+-- What stands at the front of a run of halfwords, as the walk of crate agreement (Translation/Walk) takes it apart, and what it is
+-- translated as.
 use Rattle.std.specs.Prelude.{ℕ, cond, List, [], ◌∷◌, ◌==◌, bit_and, Result, Ok, Err, Option, None, Some}
 use Rattle.agreement.specs.Riscv.Run.{in_line}
 use Rattle.agreement.specs.Translation.Decode32.{word_of}

@@ -12,7 +12,7 @@ use Rattle.walk.specs.declared.close.Helper.{Helper}
 use Rattle.walk.specs.declared.close.Helper.TheVariants.{Halfword, Access}
 use Rattle.walk.specs.declared.close.End.{End}
 use Rattle.walk.specs.declared.close.End.TheVariants.{GoesOn, Jumped, Calls}
-use Rattle.walk.specs.declared.walk.Walked.{Walked}
+use Rattle.walk.specs.declared.run.Walked.{Walked}
 
 abbrev pub helper_as : Helper → Common.Helper
 helper_as Halfword = for_halfword

@@ -50,8 +50,8 @@ impl Instr {
 }
 
 impl Fetched {
-    // A word is translated as it is, and a halfword as the word that it expands to; one that has none goes to the helper (document 02, Q-7).
-    // The Rust sends every halfword there.
+    // A word is translated as it is, and a halfword as the word that it expands to; one that has none goes to the helper (document 02,
+    // Q-7). The Rust sends every halfword there.
     #[inline(always)]
     pub fn to_translate(self) -> Result<Instr, u16>
         ensures { result ≡ to_translate self }

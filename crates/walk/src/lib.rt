@@ -3,4 +3,6 @@
 
 pub mod close;
 pub mod fetch;
-pub mod walk;
+mod run;
+
+pub use run::{Walked, emit_words};

@@ -1,4 +1,5 @@
--- Instructions written one behind another: what search does not find by computing, since the count of the first bytes depends on a register.
+-- Instructions written one behind another: what search does not find by computing, since the count of the first bytes depends on a
+-- register.
 use Rattle.std.proofs.Common.{◌≡◌, false, cond, ℕ, eqb, List, [], ◌++◌, sym, ◌∙◌, subst}
 use Rattle.agreement.specs.X86.Form.{Instr}
 use Rattle.agreement.specs.X86.Encode.{bytes}

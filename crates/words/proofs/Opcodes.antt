@@ -96,7 +96,8 @@ at_op_32 z pc w e = rw (kind_is w, e) (each_op_32 (OpIs z pc w) (op_taken z pc w
 
 at_fence : (z pc w : ℕ) → opcode w ≡ 0x0F → WordIs z pc w
 unfolding kind_of match leftover
-at_fence z pc w e = rw (kind_is w, e) (each_fence (λ (k : Instruction). fence_word k ≡ word_as k z pc w) refl refl (left z pc w 0x0F e) (funct3 w))
+at_fence z pc w e = rw (kind_is w, e)
+    (each_fence (λ (k : Instruction). fence_word k ≡ word_as k z pc w) refl refl (left z pc w 0x0F e) (funct3 w))
 
 at_load : (z pc w : ℕ) → opcode w ≡ 0x03 → WordIs z pc w
 unfolding kind_of match leftover

@@ -97,8 +97,8 @@ fn emit_by_opcode(
     }
 }
 
-// A word of the run at pc: its host instructions, and how the block goes on behind it. None, as in the Rust: the word is not taken, or a load
-// or store; there is no code for it but the loads in front of its test, of which JALR has none.
+// A word of the run at pc: its host instructions, and how the block goes on behind it. None, as in the Rust: the word is not taken, or a
+// load or store; there is no code for it but the loads in front of its test, of which JALR has none.
 #[inline(always)]
 pub fn emit_native_instr_x64(
     em: &mut X64Emitter<'_>,

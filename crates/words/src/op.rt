@@ -201,8 +201,8 @@ fn op_on_r10<const W: bool>(em: &mut X64Emitter<'_>, funct3: u8, funct7: u8) -> 
     }
 }
 
-// OP; of 32 bits OP-32. W says whether a word has 64 bits: a const parameter, so that each is compiled by itself. As an argument it kept the
-// compiler from inlining, and took five times as long (docs/PERFORMANCE.md).
+// OP; of 32 bits OP-32. W says whether a word has 64 bits: a const parameter, so that each is compiled by itself. As an argument it kept
+// the compiler from inlining, and took five times as long (docs/PERFORMANCE.md).
 #[inline(always)]
 pub fn op_word<const W: bool>(em: &mut X64Emitter<'_>, d: Decoded32) -> Option<X64EmitFlow>
     requires { HasRoom em.old 63 }

@@ -24,8 +24,11 @@ returns-in-32 c = rw (c.in-5.is, c.in-32.is) (search rules)
 
 pub returns-in_default-funct7-2 : goal.returns-in_default-funct7-2
 unfolding kind_op_imm32 match
-returns-in_default-funct7-2 c = rw (c.in-5.is, ne_eqb c.args.d.now.funct7 0 (search rules), ne_eqb c.args.d.now.funct7 32 (search rules)) (search rules)
+returns-in_default-funct7-2 c =
+    rw (c.in-5.is, ne_eqb c.args.d.now.funct7 0 (search rules), ne_eqb c.args.d.now.funct7 32 (search rules)) (search rules)
 
 pub returns-in_default : goal.returns-in_default
 unfolding kind_op_imm32 match
-returns-in_default c = simp (ne_eqb c.args.d.now.funct3 0 (search rules), ne_eqb c.args.d.now.funct3 1 (search rules), ne_eqb c.args.d.now.funct3 5 (search rules)) (search rules)
+returns-in_default c =
+    simp (ne_eqb c.args.d.now.funct3 0 (search rules), ne_eqb c.args.d.now.funct3 1 (search rules),
+        ne_eqb c.args.d.now.funct3 5 (search rules)) (search rules)

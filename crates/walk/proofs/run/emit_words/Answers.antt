@@ -4,7 +4,7 @@ use Rattle.agreement.specs.Translation.Decode32.{wrapping_add}
 use Rattle.agreement.specs.Translation.Walk.End.{goes_on}
 use Rattle.walk.proofs.WalkLoop.{used_up, lacking, halved, going_on, ended, stopped_behind, turned_down}
 use Rattle.walk.proofs.WalkWritten.{left_of}
-use Rattle.walk.proofs.walk.emit_words.Goals as goal
+use Rattle.walk.proofs.run.emit_words.Goals as goal
 
 pub returns-in_default-clause-walks : goal.returns-in_default-clause-walks
 returns-in_default-clause-walks c =
