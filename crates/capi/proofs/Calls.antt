@@ -39,9 +39,9 @@ output_short_call r after h = (h.replies, h.leaves)
 
 -- ADDI x1, x0, 5 and what stands behind it, of which the block has one; nothing behind the block is written
 block_call : (r : Reply) (after : List ℕ) → Replies 0x80000000 1 (words (0x00500093 ∷ 0x00500093 ∷ [])) 0x1111 0x2222 (replicate 4100 7) after r
-    → (r ≡ four 0 91 1 4) × (drop 91 after ≡ replicate 4009 7)
+    → (r ≡ four 0 88 1 4) × (drop 88 after ≡ replicate 4012 7)
 unfolding translations output_after words
-block_call r after h = (h.replies, ap (drop 91) h.leaves)
+block_call r after h = (h.replies, ap (drop 88) h.leaves)
 
 -- placing three bytes: behind a mark of 5 they stand at 8; a store of 8 bytes is full with a mark of 6, and has none of 9
 abbrev Places : ℕ → List ℕ → Reply → List ℕ → Type 0
