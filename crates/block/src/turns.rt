@@ -6,12 +6,10 @@ ghost use Rattle.block.specs.AgreementInCode.{AgreementInCode, AgreementOfKeptIn
 #[tactic(auto, using(crate::proofs::CodeAgrees::agreement_in_code))]
 pub fn agreement_in_code()
     ensures { AgreementInCode }
-{
-}
+{}
 
 // The same where blocks are kept while the guest's code changes behind what they span: the manual's run is of the code as it is now.
 #[tactic(auto, using(crate::proofs::CodeAgrees::agreement_of_kept_in_code))]
 pub fn agreement_of_kept_in_code()
     ensures { AgreementOfKeptInCode }
-{
-}
+{}

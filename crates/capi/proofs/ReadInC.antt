@@ -9,6 +9,7 @@ use Rattle.agreement.specs.Statement.Machine.{Turn, reply}
 use Rattle.block.proofs.CodeAgrees.{Faithful, agreement_by, agreement_of_kept_by}
 use Rattle.capi.specs.AgreementInC.{AgreementInC, AgreementOfKeptInC, Replied, read}
 use Rattle.capi.specs.Replies.{padded}
+use Rattle.capi.specs.declared.Reply.{Reply}
 
 reads : (p : Definition.Reply) (l : List ℕ) → read (padded (numbered p)) (output_after p l) ≡ p
 unfolding numbered output_after
@@ -19,9 +20,12 @@ reads (refusal (missing index)) l = refl
 reads (refusal (not_taken word)) l = refl
 reads (refusal output_short) l = refl
 
+reads_right : (p : Definition.Reply) (l : List ℕ) {l' : List ℕ} {r : Reply} → r ≡ padded (numbered p) → l' ≡ output_after p l → read r l' ≡ p
+reads_right p l e f = rw (e, f) (reads p l)
+
 replied : Faithful Replied
 replied = record {
-  right = λ pc t p l. sym (rw (l.replies.replies, l.replies.leaves) (reads (reply t pc) t.output)) ∙ l.reads;
+  right = λ pc t p l. sym (reads_right (reply t pc) t.output l.replies.replies l.replies.leaves) ∙ l.reads;
   can = λ pc t. record {
     reply = padded (numbered (reply t pc));
     after = output_after (reply t pc) t.output;

@@ -6,12 +6,10 @@ ghost use Rattle.capi.specs.AgreementInC.{AgreementInC, AgreementOfKeptInC};
 #[tactic(auto, using(crate::proofs::ReadInC::agreement_in_c))]
 pub fn agreement_in_c()
     ensures { AgreementInC }
-{
-}
+{}
 
 // The same where blocks are kept while the guest's code changes behind what they span: the manual's run is of the code as it is now.
 #[tactic(auto, using(crate::proofs::ReadInC::agreement_of_kept_in_c))]
 pub fn agreement_of_kept_in_c()
     ensures { AgreementOfKeptInC }
-{
-}
+{}

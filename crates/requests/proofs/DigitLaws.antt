@@ -17,7 +17,7 @@ Step base from value at rest line k =
     let d = digit_of (get_or line k 0) in
     digits base from value at rest
     ≡ cond (ltb d base) (cond (ltb (value * base + d) (2 ^ 64)) (digits base from (value * base + d) (at + 1) (drop (suc k) line)) None)
-        (ends from value at)
+    (ends from value at)
 
 step : (base from value at : ℕ) → base ≤ 16 → (k : ℕ) (line : List ℕ) → Step base from value at (drop k line) line k
 unfolding digits digit_of
@@ -33,8 +33,13 @@ module _ {base : ℕ} {line : List ℕ} {from value at : ℕ} (few : base ≤ 16
   module _ {d : ℕ} (digit : (digit_of (get_or line at 0) < base) × (d ≡ digit_of (get_or line at 0))) where
     pub at_one_too_many : (value * base + d < 2 ^ 64 → ⊥) → None ≡ number_at base line from
     at_one_too_many p =
-        rw (read.number, step base from value at few at line, ← digit.1, lt-ltb d base (omega (arith, digit)),
-            le-ltb (value * base + d) (2 ^ 64) (omega arith))
+        rw (
+          read.number,
+          step base from value at few at line,
+          ← digit.1,
+          lt-ltb d base (omega (arith, digit)),
+          le-ltb (value * base + d) (2 ^ 64) (omega arith),
+        )
 
     pub at_a_digit : value * base + d < 2 ^ 64 → Read base line from (value * base + d) (at + 1)
     at_a_digit p = record {

@@ -58,7 +58,7 @@ module _ {room : ℕ} {start : Fields} {lent : List ℕ} {n : ℕ} {here : Field
         at_a_comma {next} comma =
             let line : next.line ≡ here.line = comma.line ∙ halfword.line in
             let there : Some (record { value = tt; next = next.at }) ≡ word_at (44 ∷ []) here.line.now behind.at =
-                rw (← halfword.line) comma.field in
+            rw (← halfword.line) comma.field in
             record {
               size = length-set lent n value ∙ read.size;
               line = line ∙ read.line;

@@ -62,7 +62,7 @@ module _ {steps start : ℕ} {hs : List ℕ} {e₀ e : X64Emitter} {pc n k : ℕ
 
     at : {t : Option X64EmitFlow} → flow ≡ t → walk (steps - n) pc (drop k hs)
         ≡ by_flow t (2 * m) (word_as (kind i) (2 * m) pc i).code (wrapping_add pc (2 * m)) (end_at (kind i) pc i)
-            (follows (steps - n - 1) pc (drop k hs) m)
+        (follows (steps - n - 1) pc (drop k hs) m)
     at t = at_word (steps - n) pc (drop k hs) left F I (sym E.flows ∙ t)
 
     pub going_on : flow ≡ Some Continue → Walking steps start hs e₀ f (wrapping_add pc (2 * m)) (n + 1) (k + m)

@@ -99,7 +99,7 @@ at_word n pc hs {w = w} {m = m} l e i t =
     let p : Walked = follows (n - 1) pc hs m in
     some_translated n pc hs l e i ∙ walks_on (kind w) (2 * m) pc w p
     ∙ ap (λ (g : Option X64EmitFlow). by_flow g (2 * m) (word_as (kind w) (2 * m) pc w).code (wrapping_add pc (2 * m))
-        (end_at (kind w) pc w) p) t
+    (end_at (kind w) pc w) p) t
 
 -- the run behind an instruction, from the instruction and from the start of the run
 pub behind : (n pc m k : ℕ) (hs : List ℕ) → follows n pc (drop k hs) m ≡ walk n (wrapping_add pc (2 * m)) (drop (k + m) hs)

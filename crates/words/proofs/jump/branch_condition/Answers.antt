@@ -29,6 +29,11 @@ returns-in-7 c = rw c.in-7.is (search rules)
 pub returns-in_default : goal.returns-in_default
 unfolding kind_branch match
 returns-in_default c =
-    simp (ne_eqb c.args.funct3 0 (search rules), ne_eqb c.args.funct3 1 (search rules),
-        ne_eqb c.args.funct3 4 (search rules), ne_eqb c.args.funct3 5 (search rules),
-        ne_eqb c.args.funct3 6 (search rules), ne_eqb c.args.funct3 7 (search rules)) (search rules)
+    simp (
+      ne_eqb c.args.funct3 0 (search rules),
+      ne_eqb c.args.funct3 1 (search rules),
+      ne_eqb c.args.funct3 4 (search rules),
+      ne_eqb c.args.funct3 5 (search rules),
+      ne_eqb c.args.funct3 6 (search rules),
+      ne_eqb c.args.funct3 7 (search rules),
+    ) (search rules)

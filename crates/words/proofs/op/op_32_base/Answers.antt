@@ -18,5 +18,9 @@ returns-in-5 c = rw c.in-5.is (search rules)
 pub returns-in_default : goal.returns-in_default
 unfolding kind_op32 match
 returns-in_default c =
-    simp (ne_eqb c.args.funct3 0 (search rules), ne_eqb c.args.funct3 1 (search rules),
-        ne_eqb c.args.funct3 5 (search rules), cond_same) (search rules)
+    simp (
+      ne_eqb c.args.funct3 0 (search rules),
+      ne_eqb c.args.funct3 1 (search rules),
+      ne_eqb c.args.funct3 5 (search rules),
+      cond_same,
+    ) (search rules)

@@ -30,5 +30,8 @@ returns-in_default-funct7-2 c =
 pub returns-in_default : goal.returns-in_default
 unfolding kind_op_imm32 match
 returns-in_default c =
-    simp (ne_eqb c.args.d.now.funct3 0 (search rules), ne_eqb c.args.d.now.funct3 1 (search rules),
-        ne_eqb c.args.d.now.funct3 5 (search rules)) (search rules)
+    simp (
+      ne_eqb c.args.d.now.funct3 0 (search rules),
+      ne_eqb c.args.d.now.funct3 1 (search rules),
+      ne_eqb c.args.d.now.funct3 5 (search rules),
+    ) (search rules)

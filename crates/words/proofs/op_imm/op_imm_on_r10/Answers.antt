@@ -50,7 +50,13 @@ returns-in_default-imm_hi-2 c =
 pub returns-in_default : goal.returns-in_default
 unfolding kind_op_imm match
 returns-in_default c =
-    simp (ne_eqb c.args.d.now.funct3 0 (search rules), ne_eqb c.args.d.now.funct3 2 (search rules),
-        ne_eqb c.args.d.now.funct3 3 (search rules), ne_eqb c.args.d.now.funct3 4 (search rules),
-        ne_eqb c.args.d.now.funct3 6 (search rules), ne_eqb c.args.d.now.funct3 7 (search rules),
-        ne_eqb c.args.d.now.funct3 1 (search rules), ne_eqb c.args.d.now.funct3 5 (search rules)) (search rules)
+    simp (
+      ne_eqb c.args.d.now.funct3 0 (search rules),
+      ne_eqb c.args.d.now.funct3 2 (search rules),
+      ne_eqb c.args.d.now.funct3 3 (search rules),
+      ne_eqb c.args.d.now.funct3 4 (search rules),
+      ne_eqb c.args.d.now.funct3 6 (search rules),
+      ne_eqb c.args.d.now.funct3 7 (search rules),
+      ne_eqb c.args.d.now.funct3 1 (search rules),
+      ne_eqb c.args.d.now.funct3 5 (search rules),
+    ) (search rules)
