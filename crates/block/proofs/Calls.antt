@@ -1,5 +1,5 @@
--- Calls of `translate`, one of each number: whatever answer and output its contract allows, a caller reads this off them, and the output is as it
--- was but for the block at its front.
+-- Calls of `translate`, one of each number: whatever answer and output its contract allows, a caller reads this off them, and the output
+-- is as it was but for the block at its front.
 use Rattle.std.proofs.Common.{[], ◌∷◌, ◌∙◌, ◌≡◌, ap, drop, length, refl, replicate, List, ℕ}
 use Rattle.agreement.specs.Cases.{words}
 use Rattle.agreement.specs.Translation.Replies.{Reply, output_after, translate}

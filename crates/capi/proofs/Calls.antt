@@ -1,9 +1,9 @@
--- Calls of `emuko_translate` and `emuko_place`, one of each number: whatever their contracts allow, these four numbers are replied, and output and
--- store are as they were but for what was written.
-use Rattle.std.proofs.Common.{[], ◌∷◌, ◌∙◌, ◌≡◌, ap, drop, length, refl, replicate, List, ℕ}
+-- Calls of `emuko_translate` and `emuko_place`, one of each number: whatever their contracts allow, these four numbers are replied, and
+-- output and store are as they were but for what was written.
+use Rattle.std.proofs.Common.{[], ◌∷◌, ◌≡◌, ap, drop, replicate, List, ℕ}
 use Rattle.agreement.specs.Cases.{words}
 use Rattle.agreement.specs.Translation.Place.{place, placing_numbered, store_after}
-use Rattle.agreement.specs.Translation.Replies.{numbered, output_after}
+use Rattle.agreement.specs.Translation.Replies.{output_after}
 use Rattle.agreement.proofs.Checks.CasesHold.{translations}
 use Rattle.capi.specs.Replies.{Replies, RepliesToPlacing}
 use Rattle.capi.specs.declared.Reply.{Reply}
@@ -38,7 +38,8 @@ unfolding translations output_after words
 output_short_call r after h = (h.replies, h.leaves)
 
 -- ADDI x1, x0, 5 and what stands behind it, of which the block has one; nothing behind the block is written
-block_call : (r : Reply) (after : List ℕ) → Replies 0x80000000 1 (words (0x00500093 ∷ 0x00500093 ∷ [])) 0x1111 0x2222 (replicate 4100 7) after r
+block_call : (r : Reply) (after : List ℕ)
+    → Replies 0x80000000 1 (words (0x00500093 ∷ 0x00500093 ∷ [])) 0x1111 0x2222 (replicate 4100 7) after r
     → (r ≡ four 0 88 1 4) × (drop 88 after ≡ replicate 4012 7)
 unfolding translations output_after words
 block_call r after h = (h.replies, ap (drop 88) h.leaves)

@@ -1,11 +1,11 @@
 -- What a caller in C reads off the four numbers and the output is the definition's reply, and each reply can be read so.
-use Rattle.std.proofs.Common.{◌≡◌, refl, ap, sym, ◌∙◌, List, ℕ, length}
+use Rattle.std.proofs.Common.{◌≡◌, refl, ap, sym, ◌∙◌, List, ℕ}
 use lib.Seq.{take-append_seam}
 use Rattle.agreement.specs.Translation.Replies as Definition
 use Rattle.agreement.specs.Translation.Replies.{numbered, output_after}
 use Rattle.agreement.specs.Translation.Replies.Reply.{block, refusal}
 use Rattle.agreement.specs.Translation.Replies.Refusal.{limit_zero, odd_start, missing, not_taken, output_short}
-use Rattle.agreement.specs.Statement.Machine.{Turn, reply}
+use Rattle.agreement.specs.Statement.Machine.{reply}
 use Rattle.block.proofs.CodeAgrees.{Faithful, agreement_by, agreement_of_kept_by}
 use Rattle.capi.specs.AgreementInC.{AgreementInC, AgreementOfKeptInC, Replied, read}
 use Rattle.capi.specs.Replies.{padded}
@@ -20,7 +20,8 @@ reads (refusal (missing index)) l = refl
 reads (refusal (not_taken word)) l = refl
 reads (refusal output_short) l = refl
 
-reads_right : (p : Definition.Reply) (l : List ℕ) {l' : List ℕ} {r : Reply} → r ≡ padded (numbered p) → l' ≡ output_after p l → read r l' ≡ p
+reads_right : (p : Definition.Reply) (l : List ℕ) {l' : List ℕ} {r : Reply}
+    → r ≡ padded (numbered p) → l' ≡ output_after p l → read r l' ≡ p
 reads_right p l e f = rw (e, f) (reads p l)
 
 replied : Faithful Replied

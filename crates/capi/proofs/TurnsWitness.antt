@@ -1,6 +1,6 @@
 -- The agreement of `emuko_translate` applied as crate block applies its own (Witness, KeptWitness): to three and to five turns from a pc
 -- 8 below 2^64, to two at the last pc with full registers, and to kept blocks behind which the code has changed.
-use Rattle.std.proofs.Common.{[], ◌∷◌, ◌≡◌, refl, List, ℕ, arith}
+use Rattle.std.proofs.Common.{[], ◌≡◌, refl, arith}
 use Rattle.agreement.specs.Translation.Replies.{numbered, output_after, translate, Refusal.limit_zero, Reply.refusal}
 use Rattle.agreement.specs.X86.Memory.{read}
 use Rattle.agreement.proofs.Checks.Example.{first_pc, five_turns, refused_turn, three_turns, zeros}
