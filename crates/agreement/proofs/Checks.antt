@@ -34,3 +34,4 @@ pub mod BoldHelpers
 pub mod HelperTurns
 pub mod HelperList
 pub mod KeptList
+pub mod Greatest

@@ -46,7 +46,7 @@ bold_keeps s g hs h rax k u l e z = record {
   x0 = z;
   frame = λ j a. kept (s.sp - 48 + j) (or_left _ _ (range_in (s.sp - 48) 56 j (omega (arith, a))));
   block = λ i a. kept (s.block + i) (or_right (range (s.sp - 48) 56 (s.block + i)) _ (range_in s.block s.size i (omega (arith, a, e))));
-  rax = l;
+  rax = omega (arith, l);
   rdx = omega arith;
 }
   where

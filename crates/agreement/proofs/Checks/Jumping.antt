@@ -96,7 +96,7 @@ reads_tidy : (s : Site) (m : GuestState) → read_as (turn_at s jump_code jump_r
 unfolding feed_of
 reads_tidy s m = refl
 
-not_called : (t : Turn) (n : ℕ) (v : Visit) (q : Read) (u a : State) (o : Option Call) → q.stop ≡ plain → Entered t n v q o → Called o u a → ⊥
+pub not_called : (t : Turn) (n : ℕ) (v : Visit) (q : Read) (u a : State) (o : Option Call) → q.stop ≡ plain → Entered t n v q o → Called o u a → ⊥
 unfolding Entered Called
 not_called t n v q u a None e y k = k
 not_called t n v q u a (Some d) e y k = absurd (let o : ◌≡◌ (called y.h y.i) plain = sym y.stop ∙ e in let o : ◌≡◌ {A = ℕ} 0 1 = cc in omega arith)

@@ -170,8 +170,7 @@ jumps_met [] ks m a e k = k m refl
 jumps_met (s ∷ ss) ks m a e k =
     let p = both (jumps_at s) (all_jump ss) a in
     let j = jumps_lem s p.0 in
-    let rest : MetNow (further m) (kept_jumps ss ks) = jumps_met ss ks (further m) p.1 refl k in
-    (
+    let rest : MetNow (further m) (kept_jumps ss ks) = jumps_met ss ks (further m) p.1 refl k in (
       rw e (jump_meets s j),
       rw e (jump_current s j),
       λ f pc' rb rb' h w. rw ((after_plain_lem m (jump_taken s m j e) (jump_stops s m j e) h w).turned, after_one s m j e) rest,

@@ -78,8 +78,8 @@ leaves_keeps sp g hs h r v rax rdx k u s l la ld lk = record {
   x0 = read-write 8 (write 8 u.mem (0x10000 + 8 * r) v) 0x10000 0 (omega arith) (omega arith);
   frame = λ j a. ap (◌% 256) (outside u.mem r v (sp - 48 + j) l (λ i b. omega (arith, s.above)));
   block = λ i a. ap (◌% 256) (outside u.mem r v (0x20000 + i) l (λ j b. omega arith));
-  rax = la;
-  rdx = ld;
+  rax = omega (arith, la);
+  rdx = omega (arith, ld);
 }
 
 -- 2. The turns meet the premises, each at its pc
@@ -92,6 +92,7 @@ no_longer t pc b e = by lengths
 
 pub turn_of_meets : (sp : ℕ) (g : Code) (hs : List ℕ) (r v rax rdx pc : ℕ) → Allowed sp → hs ≡ run_at g pc (length hs)
     → r < 32 → rax < 2 ^ 64 → rdx < 2 ^ 64 → MeetsAt (turn_of sp g hs (leaves r v rax rdx)) pc
+unfolding leaves
 turn_of_meets sp g hs r v rax rdx pc s un lr la ld = record {
   typed = record { helper16 = omega arith; helper_mem = omega arith; others = λ k h. omega arith };
   unchanged = λ r. un;
@@ -169,7 +170,7 @@ applied pc ts low h = by agreement
   where
     by : Agreement → Agrees pc zeros ts
     by a = unfold Agreement in
-        a pc zeros ts low (unfold read in refl) (met ts (start pc zeros) zeros low (λ r k. refl) (unfold read in refl) h)
+        a pc zeros ts (omega (arith, low)) (unfold read in refl) (met ts (start pc zeros) zeros low (λ r k. refl) (unfold read in refl) h)
 
 pub three : Agrees first_pc zeros three_turns
 three = applied first_pc three_turns (omega arith) three_met

@@ -8,7 +8,7 @@ use Rattle.agreement.specs.X86.Memory.{read}
 use Rattle.agreement.specs.Statement.Machine.{Event, History, RegisterBytes, Turn, Turned, reply, since}
 use Rattle.agreement.specs.Statement.Machine.History.{end, then}
 use Rattle.agreement.specs.Statement.Premises.{Enterable, Premises, Typed, Unchanged}
-use Rattle.agreement.proofs.Theorem.Determined.{history_once}
+use Rattle.agreement.proofs.Theorem.Determined.{Same, history_once}
 use Rattle.agreement.proofs.Theorem.TurnByTurn.{Led, SlotsAre, led}
 
 -- the statement from any state m of the manual's run that the register bytes rb agree with
@@ -107,11 +107,11 @@ from_start pc rb ts r = record {
   pc' = r.pc';
   rb' = r.rb';
   history = r.history;
-  only = λ es p b h. let q = history_once r.history h in (q.events, q.pcs, q.bytes);
-  at_pc = r.at_pc;
+  only = λ es p b h. let q : Same r.events es r.pc' p r.rb' b = history_once r.history h in (cc, cc, cc);
+  at_pc = cc;
   at_slots = λ i k. r.at_slots i (omega (arith, k));
-  at_x0 = r.at_x0;
-  at_count = r.at_count;
+  at_x0 = cc;
+  at_count = cc;
   along = r.along;
 }
 

@@ -409,7 +409,7 @@ module _ (t : Turn) (m : GuestState) (rb : RegisterBytes) (ty : Typed t) (un : t
           slots = λ j l. slot_after t r.t.mem j (omega (arith, ly.base_fits)) l
               ∙ ap (λ (m : Memory). read 8 m (t.base + 8 * j)) (r.exit.same ∙ r.same);
           x0 = rw z kp.x0;
-          low = kp.rax;
+          low = omega (arith, kp.rax);
         }
 
     helped_done : (k : Helper) (i : ℕ) → CallsHelper k i
@@ -418,7 +418,7 @@ module _ (t : Turn) (m : GuestState) (rb : RegisterBytes) (ty : Typed t) (un : t
         let a : State = inside k i c in
         let kp : Keeps t (length code) a (t.helper a) = en.helper c.u a c.n c.way.ws c.call.ws
         (from_s0 c.u c.n c.way.ws c.way.goes) (by_step t call_rax c.call.fetch c.call.does) in
-        helped_by k i c st ct kp (c.back (t.helper a) (returned t code a (t.helper a) ly kp) kp.rdx)
+        helped_by k i c st ct kp (c.back (t.helper a) (returned t code a (t.helper a) ly kp) (omega (arith, kp.rdx)))
       where
         from_s0 : (u : State) (n : ℕ) (ws : List ℕ) → Steps t s0 n ws u → Steps t (enter t code rb) n ws u
         from_s0 u n ws g = unfold s0 in g
