@@ -6,8 +6,8 @@ use Rattle.agreement.specs.X86.Step.{all}
 use Rattle.agreement.proofs.Checks.Sites.{both}
 use Rattle.agreement.proofs.Checks.WitnessEntries.{not_written}
 
--- registers at 0x10000, the stack pointer at 0x30008: 1 below the registers, slot x0, behind slot x31; 65 below the stack pointer, the 8 bytes
--- between the saved registers and the call's return address; the return address of the block itself
+-- registers at 0x10000, the stack pointer at 0x30008: 1 below the registers, slot x0, behind slot x31; 65 below the stack pointer, the 8
+-- bytes between the saved registers and the call's return address; the return address of the block itself
 unfoldable pub addresses : List ℕ
 addresses =
     0xFFFF ∷ 0x10000 ∷ 0x10001 ∷ 0x10002 ∷ 0x10003 ∷ 0x10004 ∷ 0x10005 ∷ 0x10006 ∷ 0x10007 ∷ 0x10100 ∷ 0x10107

@@ -1,5 +1,5 @@
--- Helpers that keep no more than is asked of them: they change every byte of memory but those of slot x0, of the frame and of the block, and
--- every register that a callee need not keep; and in a state in which the block's CALL does not enter them they keep nothing.
+-- Helpers that keep no more than is asked of them: they change every byte of memory but those of slot x0, of the frame and of the block,
+-- and every register that a callee need not keep; and in a state in which the block's CALL does not enter them they keep nothing.
 use Rattle.std.proofs.Common.{Bool, false, true, ◌&&◌, ◌||◌, cond, List, [], ◌∷◌, ◌≡◌, ◌∙◌, ap, refl, sym, ℕ, ◌+◌, ◌-◌, ◌*◌, ◌%◌, ◌^◌, ◌<◌, ◌≤◌}
 use Rattle.std.proofs.Common.{arith, eqb, length}
 use Rattle.agreement.specs.Riscv.Code.{Code}
@@ -25,7 +25,8 @@ is_kept k = eqb k RBX || (eqb k RBP || (eqb k R12 || (eqb k R13 || (eqb k R14 ||
 -- back with RAX as given, RDX 2^64 - 1, all registers that need not be kept 2^64
 unfoldable pub bold : Site → ℕ → State → State
 bold s rax u = record {
-  regs = λ k. cond (eqb k RSP) (at (u.regs RSP) 8) (cond (eqb k RAX) rax (cond (eqb k RDX) (2 ^ 64 - 1) (cond (is_kept k) (u.regs k) (2 ^ 64))));
+  regs = λ k.
+      cond (eqb k RSP) (at (u.regs RSP) 8) (cond (eqb k RAX) rax (cond (eqb k RDX) (2 ^ 64 - 1) (cond (is_kept k) (u.regs k) (2 ^ 64))));
   flags = set_all;
   rip = read 8 u.mem (u.regs RSP);
   mem = overrun s u.mem;

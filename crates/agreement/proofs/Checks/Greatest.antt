@@ -1,5 +1,5 @@
--- The theorem applied to a block of the greatest length, 4,099 bytes, that ends at 2^64: sixty-four DIVW of a run of sixty-five, at the greatest
--- limit. The registers touch it from below, and the stack the registers.
+-- The theorem applied to a block of the greatest length, 4,099 bytes, that ends at 2^64: sixty-four DIVW of a run of sixty-five, at the
+-- greatest limit. Below it stand the registers, and below them the stack.
 use Rattle.std.proofs.Common.{false, List, [], ◌∷◌, ◌≡◌, ◌∙◌, ap, refl, sym, ℕ, ◌+◌, ◌-◌, ◌*◌, ◌^◌, ◌<◌, ◌≤◌, arith, length}
 use Rattle.std.specs.Prelude.{None}
 use Rattle.agreement.specs.Cases.{copies, words}
@@ -76,8 +76,8 @@ meets = record {
   };
 }
   where
-    no_call : (rb : RegisterBytes) → read 8 rb 0 ≡ 0 → (b : Block) → reply great_turn jump_pc ≡ block b → (u a : State) (k : ℕ) (ws xs : List ℕ)
-        → Steps great_turn (enter great_turn b.code rb) k ws u → By great_turn call_rax u a xs → ⊥
+    no_call : (rb : RegisterBytes) → read 8 rb 0 ≡ 0 → (b : Block) → reply great_turn jump_pc ≡ block b
+        → (u a : State) (k : ℕ) (ws xs : List ℕ) → Steps great_turn (enter great_turn b.code rb) k ws u → By great_turn call_rax u a xs → ⊥
     no_call rb z b e u a k ws xs g c =
         let w : CalledAs site code run jump_pc rb b u a =
         called_as site code run (λ u. u) jump_pc rb b u a k ws xs fit (omega arith) z unchanged size e g c in
@@ -122,7 +122,8 @@ record Great (es : List Event) (m : GuestState) : Type 0 where
   after_count : m.count ≡ 64
 
 great_ends : Ends g0 (great_turn ∷ []) Great
-great_ends = ends_plain g0 great_turn [] Great (taken ones) (stops (λ u. u) ones) (λ e w. ends_here (after_plain great_turn g0) (λ es. Great (e ∷ es)) (says e w))
+great_ends = ends_plain g0 great_turn [] Great (taken ones) (stops (λ u. u) ones) (λ e w.
+    ends_here (after_plain great_turn g0) (λ es. Great (e ∷ es)) (says e w))
   where
     says : (e : Event) → WentPlainly g0 great_turn e → Great (e ∷ []) (after_plain great_turn g0)
     says e w = record {

@@ -1,5 +1,5 @@
--- The theorem applied to sixteen turns: one at each site, then the two whose helpers keep no more than is asked, and last one that is refused
--- at the last address. What it says of these three, and of every history of the list.
+-- The theorem applied to sixteen turns: one at each site, then the two whose helpers keep no more than is asked, and last one that is
+-- refused at the last address. What it says of these three, and of every history of the list.
 use Rattle.std.proofs.Common.{Bool, false, true, ◌&&◌, not, List, [], ◌∷◌, ◌++◌, ◌≡◌, ◌∙◌, ap, refl, sym, subst, ℕ, ◌+◌, ◌-◌, ◌*◌, ◌%◌, ◌^◌, ◌<◌, ◌≤◌}
 use Rattle.std.proofs.Common.{arith, cond, eqb, length, ltb}
 use Rattle.std.specs.Prelude.{None}
@@ -57,7 +57,8 @@ mem_called = ap (λ (q : Read). q.stop) (mem_reads (wild mem_good mem_site jump_
 mem_entered : (e : Event) (w : WentHelped n0 mem_turn e) → mem_good w.call.inside ≡ true
 mem_entered e w =
     mem_known w.call.inside (w.says.target ∙ target_is w.says.h mem_turn refl refl)
-    (w.says.slots_inside 1 (omega arith) ∙ ap (λ (q : Read). q.registers 1) (mem_reads (wild mem_good mem_site jump_pc) n0 refl) ∙ mem_x1 n0 n0_x0)
+    (w.says.slots_inside 1 (omega arith) ∙ ap (λ (q : Read). q.registers 1) (mem_reads (wild mem_good mem_site jump_pc) n0 refl)
+    ∙ mem_x1 n0 n0_x0)
 
 -- the manual's state after it
 abbrev pub n1 : State → GuestState
@@ -157,7 +158,8 @@ read_high = record { x30 = refl; x31 = refl }
 mem_says : {e : Event} (w : WentHelped n0 mem_turn e) → MemSays w.was.b.count w.was.v w.call
 unfolding bold overrun range
 mem_says {e = e} w =
-    let k : Helped mem_turn w.was.b.count w.was.v w.call (mem_read n0) = rw (mem_reads (wild mem_good mem_site jump_pc) n0 refl) at w.says in
+    let k : Helped mem_turn w.was.b.count w.was.v w.call (mem_read n0) =
+    rw (mem_reads (wild mem_good mem_site jump_pc) n0 refl) at w.says in
     let b : w.call.back ≡ bold mem_site jump_pc w.call.inside =
     w.back ∙ wild_is mem_good mem_site jump_pc w.call.inside (mem_entered e w) in
     record {
@@ -250,7 +252,8 @@ pub record Sixteen (es : List Event) (m : GuestState) : Type 0 where
 pub sixteen_ends : Ends (start jump_pc ones) sixteen Sixteen
 sixteen_ends =
     jumps_end sites three (start jump_pc ones) Sixteen sites_jump refl (λ fs y. rw to_n0
-    (ends_helped n0 mem_turn (half_turn ∷ last_turn ∷ []) (λ es. Sixteen (fs ++ es)) for_access 0x0000B083 (mem_taken n0 refl) mem_called (λ e1 w1.
+    (ends_helped n0 mem_turn (half_turn ∷ last_turn ∷ []) (λ es. Sixteen (fs ++ es)) for_access 0x0000B083
+    (mem_taken n0 refl) mem_called (λ e1 w1.
     rw (after_mem e1 w1) (ends_helped (n1 w1.call.inside) half_turn (last_turn ∷ []) (λ es. Sixteen (fs ++ (e1 ∷ es))) for_halfword 0x4108
     (half_taken (n1 w1.call.inside) refl) (half_called w1.call.inside) (λ e2 w2.
     rw (after_half w1.call.inside e2 w2) (ends_refused (n2 w2.call.inside) last_turn [] (λ es. Sixteen (fs ++ (e1 ∷ e2 ∷ es)))
@@ -292,8 +295,8 @@ pub sixteen_end : (es : List Event) (pc' : ℕ) (rb' : RegisterBytes) → Histor
 sixteen_end es pc' rb' h = record {
   pc = sym q.1 ∙ a.at_pc ∙ ap (λ (m : GuestState). m.pc) k.after;
   x0 = ap (λ (b : RegisterBytes). read 8 b (8 * 0)) (sym q.2) ∙ a.at_slots 0 (omega arith) ∙ a.at_x0;
-  x30 = ap (λ (b : RegisterBytes). read 8 b (8 * 30)) (sym q.2) ∙ a.at_slots 30 (omega arith) ∙ ap (λ (m : GuestState). m.registers 30) k.after ∙ u.x30;
-  x31 = ap (λ (b : RegisterBytes). read 8 b (8 * 31)) (sym q.2) ∙ a.at_slots 31 (omega arith) ∙ ap (λ (m : GuestState). m.registers 31) k.after ∙ u.x31;
+  x30 = slot 30 (omega arith) ∙ u.x30;
+  x31 = slot 31 (omega arith) ∙ u.x31;
   count = ap (since 0) (sym q.0) ∙ a.at_count ∙ ap (λ (m : GuestState). m.count) k.after;
 }
   where
@@ -308,6 +311,11 @@ sixteen_end es pc' rb' h = record {
 
     u : High (n2 k.second.call.inside).registers
     u = n2_high k.second.call.inside
+
+    slot : (r : ℕ) → r < 32 → read 8 rb' (8 * r) ≡ (n2 k.second.call.inside).registers r
+    slot r l =
+        ap (λ (b : RegisterBytes). read 8 b (8 * r)) (sym q.2) ∙ a.at_slots r (omega (arith, l))
+        ∙ ap (λ (m : GuestState). m.registers r) k.after
 
 -- 7. A list that begins at the last address: two turns, both refused
 

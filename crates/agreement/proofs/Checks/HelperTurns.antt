@@ -141,8 +141,8 @@ inside : (s : Site) (g : Code) (hs : List ℕ) (rb : RegisterBytes) (b : Block) 
 unfolding Entered Called
 inside s g hs rb b u a w = go w.v.call w.says w.called
   where
-    go : (o : Option Call) → Entered (turn_at s g hs (tidy s)) b.count w.v (read_as (turn_at s g hs (tidy s)) (start jump_pc rb)) o → Called o u a
-        → Inside s (read_as (turn_at s g hs (tidy s)) (start jump_pc rb)) a
+    go : (o : Option Call) → Entered (turn_at s g hs (tidy s)) b.count w.v (read_as (turn_at s g hs (tidy s)) (start jump_pc rb)) o
+        → Called o u a → Inside s (read_as (turn_at s g hs (tidy s)) (start jump_pc rb)) a
     go None y k = absurd k
     go (Some d) y k = record {
       rip = ap (λ (x : State). x.rip) (sym k.1) ∙ y.target ∙ target_is s g hs (tidy s) y.h;
@@ -153,7 +153,8 @@ turn_meets : (s : Site) (g : Code) (hs : List ℕ) (good : State → Bool) (rax 
     → hs ≡ run_at g jump_pc (length hs)
     → ((b : Block) → reply (turn_at s g hs (wild good s rax)) jump_pc ≡ block b → length b.code ≡ s.size)
     → ((a : State) → read 8 (overrun s a.mem) s.base ≡ 0)
-    → ((rb : RegisterBytes) (a : State) → read 8 rb 0 ≡ 0 → Inside s (read_as (turn_at s g hs (tidy s)) (start jump_pc rb)) a → good a ≡ true)
+    → ((rb : RegisterBytes) (a : State) → read 8 rb 0 ≡ 0 → Inside s (read_as (turn_at s g hs (tidy s)) (start jump_pc rb)) a
+    → good a ≡ true)
     → MeetsAt (turn_at s g hs (wild good s rax)) jump_pc
 turn_meets s g hs good rax f l un long x0 ok = record {
   typed = record { helper16 = omega arith; helper_mem = omega arith; others = λ k h. omega (arith, h) };
@@ -173,7 +174,8 @@ mem_known a e k = rw (e, k) refl
 
 pub mem_meets : MeetsAt mem_turn jump_pc
 unfolding fits overrun range read
-mem_meets = turn_meets mem_site mem_code mem_run mem_good jump_pc (fits_lem mem_site refl) (omega arith) mem_unchanged mem_long (λ a. refl) known
+mem_meets =
+    turn_meets mem_site mem_code mem_run mem_good jump_pc (fits_lem mem_site refl) (omega arith) mem_unchanged mem_long (λ a. refl) known
   where
     known : (rb : RegisterBytes) (a : State) → read 8 rb 0 ≡ 0
         → Inside mem_site (read_as (turn_at mem_site mem_code mem_run (tidy mem_site)) (start jump_pc rb)) a → mem_good a ≡ true
@@ -184,5 +186,5 @@ mem_meets = turn_meets mem_site mem_code mem_run mem_good jump_pc (fits_lem mem_
 pub half_meets : MeetsAt half_turn jump_pc
 unfolding fits overrun range read
 half_meets =
-    turn_meets half_site half_code half_run half_good (2 ^ 64 - 1) (fits_lem half_site refl) (omega arith) half_unchanged half_long (λ a. refl)
-    (λ rb a z i. rw i.rip refl)
+    turn_meets half_site half_code half_run half_good (2 ^ 64 - 1) (fits_lem half_site refl) (omega arith) half_unchanged half_long
+    (λ a. refl) (λ rb a z i. rw i.rip refl)

@@ -1,5 +1,5 @@
--- The theorem applied to a turn at each of thirteen sites, from any register bytes whose slot x0 is zero: what it says of every turn, and of
--- every history of the list.
+-- The theorem applied to a turn at each of thirteen sites, from any register bytes whose slot x0 is zero: what it says of every turn, and
+-- of every history of the list.
 use Rattle.std.proofs.Common.{Bool, false, true, ◌&&◌, not, List, [], ◌∷◌, ◌++◌, ◌≡◌, ◌∙◌, ap, refl, sym, subst, ℕ, suc, ◌+◌, ◌-◌, ◌*◌, ◌%◌, ◌^◌, ◌<◌, ◌≤◌}
 use Rattle.std.proofs.Common.{arith, cond, eqb, length, ltb, min}
 use Rattle.agreement.specs.Riscv.Run.{GuestState, Registers, Stop.plain, Read, jump}
@@ -72,7 +72,8 @@ pub record JumpSays (s : Site) (x : Registers) (pc n : ℕ) (v : Visit) : Type 0
 unfoldable pub EachSays : Registers → List Site → List Event → Type 0
 EachSays x [] es = Unit
 EachSays x (s ∷ ss) [] = ⊥
-EachSays x (s ∷ ss) (e ∷ es) = ((m : GuestState) × (w : WentPlainly m (jump_turn s) e) × JumpSays s x w.was.pc w.was.b.count w.was.v) × EachSays x ss es
+EachSays x (s ∷ ss) (e ∷ es) =
+    ((m : GuestState) × (w : WentPlainly m (jump_turn s) e) × JumpSays s x w.was.pc w.was.b.count w.was.v) × EachSays x ss es
 
 longer : (x : Registers) (ss : List Site) (es fs : List Event) → EachSays x ss es → EachSays x ss (es ++ fs)
 unfolding EachSays
@@ -99,7 +100,8 @@ jump_says s m e j p w =
       log = w.was.returns.log;
     }
 
-pub jumps_end : (ss : List Site) (ts : List Turn) (m : GuestState) (P : List Event → GuestState → Type 0) → all_jump ss ≡ true → m.pc ≡ jump_pc
+pub jumps_end : (ss : List Site) (ts : List Turn) (m : GuestState) (P : List Event → GuestState → Type 0)
+    → all_jump ss ≡ true → m.pc ≡ jump_pc
     → ((es : List Event) → EachSays m.registers ss es → Ends (after_jumps m ss) ts (λ fs. P (es ++ fs))) → Ends m (jump_turns ss ts) P
 unfolding all_jump jump_turns after_jumps EachSays
 jumps_end [] ts m P a e k = k [] tt
@@ -123,7 +125,8 @@ abbrev AfterJumps : GuestState → List Event → GuestState → Type 0
 AfterJumps m es n = EachSays m.registers sites es × (n ≡ after_jumps m sites)
 
 jumping_ends : (m : GuestState) → m.pc ≡ jump_pc → Ends m jumping (AfterJumps m)
-jumping_ends m e = jumps_end sites [] m (AfterJumps m) sites_jump e (λ es y. ends_here (after_jumps m sites) (λ fs. AfterJumps m (es ++ fs)) (longer _ sites es [] y, refl))
+jumping_ends m e = jumps_end sites [] m (AfterJumps m) sites_jump e (λ es y.
+    ends_here (after_jumps m sites) (λ fs. AfterJumps m (es ++ fs)) (longer _ sites es [] y, refl))
 
 -- every history of the list: each turn as above, the registers as they were, 13 instructions
 pub record Jumped (rb : RegisterBytes) (es : List Event) (pc' : ℕ) (rb' : RegisterBytes) : Type 0 where
@@ -157,7 +160,8 @@ jumped rb z es pc' rb' h = by
       each = subst (λ (x : List Event). EachSays (start jump_pc rb).registers sites x) q.0 ends.0;
       pc = sym q.1 ∙ a.at_pc ∙ ap (λ (m : GuestState). m.pc) is;
       slots = λ r l.
-          ap (λ (b : RegisterBytes). read 8 b (8 * r)) (sym q.2) ∙ a.at_slots r (omega (arith, l)) ∙ ap (λ (m : GuestState). m.registers r) is;
+          ap (λ (b : RegisterBytes). read 8 b (8 * r)) (sym q.2) ∙ a.at_slots r (omega (arith, l))
+          ∙ ap (λ (m : GuestState). m.registers r) is;
       count = ap (since 0) (sym q.0) ∙ a.at_count ∙ ap (λ (m : GuestState). m.count) is;
     }
 
@@ -170,8 +174,8 @@ unfolding read
 ones_x0 = refl
 
 ones_jumped : (es : List Event) (pc' : ℕ) (rb' : RegisterBytes) → History jump_pc ones jumping es pc' rb'
-    → (pc' ≡ 0xFFFFFFFFFFFFFFFE) × (read 8 rb' (8 * 31) ≡ 0xFFFFFFFFFFFFFFFF) × (read 8 rb' (8 * 30) ≡ 0xFFFFFFFFFFFFFFFF) × (read 8 rb' 0 ≡ 0)
-    × (since 0 es ≡ 13)
+    → (pc' ≡ 0xFFFFFFFFFFFFFFFE) × (read 8 rb' (8 * 31) ≡ 0xFFFFFFFFFFFFFFFF) × (read 8 rb' (8 * 30) ≡ 0xFFFFFFFFFFFFFFFF)
+    × (read 8 rb' 0 ≡ 0) × (since 0 es ≡ 13)
 unfolding read
 ones_jumped es pc' rb' h =
     let j = jumped ones ones_x0 es pc' rb' h in

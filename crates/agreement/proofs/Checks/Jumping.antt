@@ -1,5 +1,5 @@
--- Turns that jump to where they stand, at thirteen sites: block, register bytes and stack touch each other in each order, begin at address 0
--- and end at 2^64. The code stands in the last two and the first two bytes of the address space; a helper is never called, and keeps nothing.
+-- Turns that jump to where they stand, at thirteen sites: block, register bytes and stack touch each other in each order, begin at address
+-- 0 and end at 2^64. The code stands in the last two and the first two bytes of the address space; no helper is called, nor keeps anything.
 use Rattle.std.proofs.Common.{Bool, false, true, ◌&&◌, not, List, [], ◌∷◌, ◌++◌, ◌≡◌, ◌∙◌, ◌≢◌, ap, refl, sym, ℕ, suc, ◌+◌, ◌-◌, ◌*◌, ◌%◌, ◌^◌, ◌<◌, ◌≤◌}
 use Rattle.std.proofs.Common.{arith, eqb, length, min}
 use Rattle.std.specs.Prelude.{Option, None, Some}
@@ -96,10 +96,12 @@ reads_tidy : (s : Site) (m : GuestState) → read_as (turn_at s jump_code jump_r
 unfolding feed_of
 reads_tidy s m = refl
 
-pub not_called : (t : Turn) (n : ℕ) (v : Visit) (q : Read) (u a : State) (o : Option Call) → q.stop ≡ plain → Entered t n v q o → Called o u a → ⊥
+pub not_called : (t : Turn) (n : ℕ) (v : Visit) (q : Read) (u a : State) (o : Option Call)
+    → q.stop ≡ plain → Entered t n v q o → Called o u a → ⊥
 unfolding Entered Called
 not_called t n v q u a None e y k = k
-not_called t n v q u a (Some d) e y k = absurd (let o : ◌≡◌ (called y.h y.i) plain = sym y.stop ∙ e in let o : ◌≡◌ {A = ℕ} 0 1 = cc in omega arith)
+not_called t n v q u a (Some d) e y k =
+    absurd (let o : ◌≡◌ (called y.h y.i) plain = sym y.stop ∙ e in let o : ◌≡◌ {A = ℕ} 0 1 = cc in omega arith)
 
 no_call : (s : Site) → Jumps s → (rb : RegisterBytes) → read 8 rb 0 ≡ 0 → (b : Block) → reply (jump_turn s) jump_pc ≡ block b
     → (u a : State) (k : ℕ) (ws xs : List ℕ) → Steps (jump_turn s) (enter (jump_turn s) b.code rb) k ws u

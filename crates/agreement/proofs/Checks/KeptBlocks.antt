@@ -232,7 +232,8 @@ three_met = (first_meets, first_current, λ e pc' rb rb' h w. rw (after_plain_le
     )
 
 -- the theorem on kept blocks, whatever the register bytes
-pub applied_now : (pc : ℕ) (rb : RegisterBytes) (ks : List Kept) → pc < 2 ^ 64 → read 8 rb 0 ≡ 0 → MetNow (start pc rb) ks → AgreesNow pc rb ks
+pub applied_now : (pc : ℕ) (rb : RegisterBytes) (ks : List Kept) → pc < 2 ^ 64 → read 8 rb 0 ≡ 0 → MetNow (start pc rb) ks
+    → AgreesNow pc rb ks
 applied_now pc rb ks low z h = by agreement_of_kept
   where
     asked : Asked pc rb ks

@@ -1,5 +1,5 @@
--- The theorem on kept blocks applied to sixteen turns, those of Checks/HelperList: behind what each block spans the code is now another, in the
--- last two bytes of the address space and the first, and no more of it can be fetched than the block spans.
+-- The theorem on kept blocks applied to sixteen turns, those of Checks/HelperList: behind what each block spans the code is now another, in
+-- the last two bytes of the address space and the first, and no more of it can be fetched than the block spans.
 use Rattle.std.proofs.Common.{Bool, false, true, ◌&&◌, List, [], ◌∷◌, ◌++◌, ◌≡◌, ◌∙◌, ◌≢◌, ap, refl, sym, subst, cond, ℕ, zero, suc, ◌+◌, ◌-◌, ◌*◌, ◌^◌, ◌<◌, ◌≤◌}
 use Rattle.std.proofs.Common.{arith, eqb, length, min}
 use Rattle.std.specs.Prelude.{Option, None, Some}
@@ -62,7 +62,8 @@ turns_are = refl
 
 -- 2. What is asked of it
 
-jump_reply : (s : Site) → Jumps s → reply (jump_turn s) jump_pc ≡ block (block_of (2 ^ 64 - 1) (2 ^ 64 - 1) (walked jump_pc s.limit jump_run))
+jump_reply : (s : Site) → Jumps s
+    → reply (jump_turn s) jump_pc ≡ block (block_of (2 ^ 64 - 1) (2 ^ 64 - 1) (walked jump_pc s.limit jump_run))
 unfolding immediates translations words
 jump_reply s j = rw (eqb_no s.limit 0 j.limit, translate) refl
 

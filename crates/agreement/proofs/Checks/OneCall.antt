@@ -1,5 +1,5 @@
--- Which call a block comes to does not depend on what its helper does: with a helper in its place that keeps all that is asked, wherever it is
--- entered, the theorem says how the block goes. So a helper need keep what is asked only where the block's own CALL enters it.
+-- Which call a block comes to does not depend on what its helper does: with a helper in its place that keeps all that is asked, wherever it
+-- is entered, the theorem says how the block goes. So a helper need keep what is asked only where the block's own CALL enters it.
 use Rattle.std.proofs.Common.{List, ◌∷◌, ◌≡◌, ◌∙◌, ap, refl, subst, sym, ℕ, ◌+◌, ◌-◌, ◌*◌, ◌%◌, ◌^◌, ◌<◌, ◌≤◌, arith, length}
 use Rattle.std.specs.Prelude.{Option, None, Some}
 use Rattle.agreement.specs.Riscv.Code.{Code, run_at}
@@ -81,7 +81,8 @@ one_call s g hs h (helped {u = u} w b q d) p c =
     let o = once t.undefined t.ok u b.does c''.does in
     (z.state, o.state)
 
-entered_of : (m : GuestState) (t : Turn) (pc n : ℕ) (v : Visit) → At m t (visited pc n v) → Entered t n v (read_turn (feed_of t None) m) v.call
+entered_of : (m : GuestState) (t : Turn) (pc n : ℕ) (v : Visit) → At m t (visited pc n v)
+    → Entered t n v (read_turn (feed_of t None) m) v.call
 unfolding At
 entered_of m t pc n v a = a.1
 
