@@ -35,3 +35,4 @@ pub mod HelperTurns
 pub mod HelperList
 pub mod KeptList
 pub mod Greatest
+pub mod Elsewhere
