@@ -6,8 +6,8 @@ use Rattle.agreement.specs.Riscv.Code.{Code}
 use Rattle.agreement.specs.Statement.Premises.{Keeps}
 use Rattle.agreement.specs.X86.Form.{R12, R13, R14, R15, RAX, RBP, RBX, RDX, RSP}
 use Rattle.agreement.specs.X86.Memory.{Memory, at, read}
-use Rattle.agreement.specs.X86.State.{Flags, State}
-use Rattle.agreement.proofs.Checks.Example.{range}
+use Rattle.agreement.specs.X86.State.{State}
+use Rattle.agreement.proofs.Checks.Example.{clear, range}
 use Rattle.agreement.proofs.Checks.Sites.{Site, range_in, turn_at}
 use Rattle.agreement.proofs.Laws.Tests.{eqb_yes}
 use Rattle.agreement.proofs.Theorem.OneTurn.{or_left, or_right}
@@ -15,9 +15,6 @@ use Rattle.agreement.proofs.Theorem.OneTurn.{or_left, or_right}
 -- the bytes of the frame and of the block as before, in numbers that are 256 more; slot x0 zero; all others 255
 unfoldable pub overrun : Site → Memory → Memory
 overrun s m x = cond (range (s.sp - 48) 56 x || range s.block s.size x) (m x + 256) (cond (range s.base 8 x) 256 255)
-
-abbrev set_all : Flags
-set_all = record { cf = true; pf = true; af = true; zf = true; sf = true; of = true }
 
 abbrev is_kept : ℕ → Bool
 is_kept k = eqb k RBX || (eqb k RBP || (eqb k R12 || (eqb k R13 || (eqb k R14 || eqb k R15))))
@@ -27,7 +24,7 @@ unfoldable pub bold : Site → ℕ → State → State
 bold s rax u = record {
   regs = λ k.
       cond (eqb k RSP) (at (u.regs RSP) 8) (cond (eqb k RAX) rax (cond (eqb k RDX) (2 ^ 64 - 1) (cond (is_kept k) (u.regs k) (2 ^ 64))));
-  flags = set_all;
+  flags = clear;
   rip = read 8 u.mem (u.regs RSP);
   mem = overrun s u.mem;
 }
@@ -56,7 +53,7 @@ bold_keeps s g hs h rax k u l e z = record {
 
 -- so is this one in the states that the test finds, and elsewhere it goes astray
 abbrev astray : State
-astray = record { regs = λ k. 2 ^ 64; flags = set_all; rip = 0; mem = λ x. 1 }
+astray = record { regs = λ k. 2 ^ 64; flags = clear; rip = 0; mem = λ x. 1 }
 
 unfoldable pub wild : (State → Bool) → Site → ℕ → State → State
 wild good s rax u = elim (good u) [ true ↦ bold s rax u | false ↦ astray ]

@@ -7,7 +7,7 @@ use Rattle.agreement.specs.Common.{Helper, Helper.for_access, Helper.for_halfwor
 use Rattle.agreement.specs.Riscv.Code.{run_at}
 use Rattle.agreement.specs.Riscv.Run.{GuestState, Read, Registers, Stop.called, help, write_x}
 use Rattle.agreement.specs.Statement.Agreement.{Agrees, At, Helped, after, helper_of, is_refused, own, start}
-use Rattle.agreement.specs.Statement.Machine.{Call, Event, History, RegisterBytes, Turn, Visit, since}
+use Rattle.agreement.specs.Statement.Machine.{Call, Event, History, History.end, RegisterBytes, Turn, Visit, since}
 use Rattle.agreement.specs.Statement.Machine.Event.{rejected, visited}
 use Rattle.agreement.specs.Translation.Replies.{Refusal, translate}
 use Rattle.agreement.specs.X86.Form.{R8, RAX, RCX, RDX, RSP}
@@ -15,12 +15,13 @@ use Rattle.agreement.specs.X86.Memory.{read}
 use Rattle.agreement.specs.X86.State.{State}
 use Rattle.agreement.proofs.Checks.Alone.{Alone, addresses, alone, none}
 use Rattle.agreement.proofs.Checks.BoldHelpers.{bold, overrun, wild, wild_is}
-use Rattle.agreement.proofs.Checks.Example.{range}
+use Rattle.agreement.proofs.Checks.Example.{range, refused_turn}
 use Rattle.agreement.proofs.Checks.ExampleStates.{reads_a_turn}
 use Rattle.agreement.proofs.Checks.HelperTurns.{half_code, half_good, half_meets, half_reads, half_run, half_site, half_taken, half_turn}
 use Rattle.agreement.proofs.Checks.HelperTurns.{mem_good, mem_known, mem_meets, mem_read, mem_reads, mem_site, mem_taken, mem_turn, mem_x1}
 use Rattle.agreement.proofs.Checks.Jumping.{jump_pc, jump_turn, lone_site, sites, sites_jump}
 use Rattle.agreement.proofs.Checks.JumpList.{EachSays, JumpSays, after_jumps, after_sites, applied_to, jump_turns, jumps_end, jumps_met, ones, ones_x0}
+use Rattle.agreement.proofs.Checks.PremisesMet.{refused_meets}
 use Rattle.agreement.proofs.Checks.Sites.{turn_at}
 use Rattle.agreement.proofs.Theorem.AlongTheRun.{Ends, MeetsAt, Met, ends_helped, ends_here, ends_refused, met_entered, met_refused}
 use Rattle.agreement.proofs.Theorem.Consequences.{WentHelped, WentPlainly, after_helper, read_as, refused_x0}
@@ -374,3 +375,20 @@ twice_end es pc' rb' h = (
 
     k : Twice a.events (after (2 ^ 64 - 1) ones refused_twice a.events)
     k = twice_ends _ _ a.events _ _ a.history a.along
+
+-- 8. Lists that begin at address 0: none at all, and one turn with a limit of 0
+
+none_agrees : Agrees 0 ones []
+none_agrees = applied_to 0 ones [] (omega arith) ones_x0 (unfold Met in tt)
+
+refused_agrees : Agrees 0 ones (refused_turn ∷ [])
+refused_agrees =
+    applied_to 0 ones (refused_turn ∷ []) (omega arith) ones_x0
+    (met_refused (start 0 ones) refused_turn [] (refused_meets 0) (unfold reads_a_turn in refl) (unfold Met in tt))
+
+-- the first ends as it begins
+none_end : (es : List Event) (pc' : ℕ) (rb' : RegisterBytes) → History 0 ones [] es pc' rb' → (es ≡ []) × (pc' ≡ 0) × (rb' ≡ ones)
+none_end es pc' rb' end = (refl, refl, refl)
+
+none_history : (none_agrees.events ≡ []) × (none_agrees.pc' ≡ 0) × (none_agrees.rb' ≡ ones)
+none_history = none_end _ _ _ none_agrees.history

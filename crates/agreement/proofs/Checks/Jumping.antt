@@ -149,8 +149,8 @@ sites =
     -- R B up to 2^64, the stack at the bottom; B at the top, R at the bottom and S at 2^63; the greatest limit of a u32
     ∷ site 64 (2 ^ 64 - 67) (2 ^ 64 - 323) 72
     ∷ site (2 ^ 32 - 1) (2 ^ 64 - 67) 0 (2 ^ 63 + 8)
-    -- a limit of 64 bits; R and S on both sides of 2^32, B behind 2^47
-    ∷ site (2 ^ 64 - 1) (2 ^ 47 - 1) (2 ^ 32 - 256) (2 ^ 32 + 72)
+    -- a limit that is no number of 64 bits; R and S on both sides of 2^32, B behind 2^47
+    ∷ site (2 ^ 64) (2 ^ 47 - 1) (2 ^ 32 - 256) (2 ^ 32 + 72)
     ∷ site 1 (2 ^ 63 - 1) (2 ^ 63 - 257) (2 ^ 63 - 328) ∷ []
 
 unfoldable pub all_jump : List Site → Bool

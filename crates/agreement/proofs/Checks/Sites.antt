@@ -5,8 +5,8 @@ use Rattle.std.proofs.Common.{eqb, leb, ltb, length, replicate}
 use Rattle.agreement.specs.Riscv.Code.{Code}
 use Rattle.agreement.specs.Statement.Machine.{Turn}
 use Rattle.agreement.specs.Statement.Premises.{Apart, Layout}
-use Rattle.agreement.specs.X86.State.{State}
-use Rattle.agreement.proofs.Checks.Example.{clear, range}
+use Rattle.agreement.specs.X86.State.{Flags, State}
+use Rattle.agreement.proofs.Checks.Example.{range}
 use Rattle.agreement.proofs.Laws.Tests.{eqb-true, leb-true}
 use Rattle.agreement.proofs.Theorem.OneTurn.{between, or_left, or_right}
 
@@ -19,11 +19,14 @@ pub record Site : Type 0 where
   pub base : ℕ
   pub sp : ℕ
 
+abbrev pub set_all : Flags
+set_all = record { cf = true; pf = true; af = true; zf = true; sf = true; of = true }
+
 -- which addresses may be read and written: the register bytes, and the stack from 64 below sp to 8 above it
 unfoldable pub usable : ℕ → ℕ → ℕ → Bool
 usable base sp x = range base 256 x || range (sp - 64) 72 x
 
--- the sixteen registers at entry are 2^64 - 16 to 2^64 - 1
+-- the sixteen registers at entry are 2^64 - 16 to 2^64 - 1, all flags are set, and no byte of memory is in a number below 2^64
 abbrev pub turn_at : Site → Code → List ℕ → (State → State) → Turn
 turn_at s code hs helper = record {
   limit = s.limit;
@@ -37,10 +40,10 @@ turn_at s code hs helper = record {
   base = s.base;
   sp = s.sp;
   others = λ k. 2 ^ 64 - 16 + k;
-  flags = clear;
-  rest = λ a. a % 251;
+  flags = set_all;
+  rest = λ a. 2 ^ 64 + a;
   ok = record { fetch = range s.block s.size; read = usable s.base s.sp; write = usable s.base s.sp };
-  undefined = λ u. clear;
+  undefined = λ u. u.flags;
   helper = helper;
 }
 
