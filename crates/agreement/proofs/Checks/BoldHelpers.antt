@@ -1,7 +1,7 @@
 -- Helpers that keep no more than is asked of them: they change every byte of memory but those of slot x0, of the frame and of the block,
 -- and every register that a callee need not keep; and in a state in which the block's CALL does not enter them they keep nothing.
-use Rattle.std.proofs.Common.{Bool, false, true, ◌&&◌, ◌||◌, cond, List, [], ◌∷◌, ◌≡◌, ◌∙◌, ap, refl, sym, ℕ, ◌+◌, ◌-◌, ◌*◌, ◌%◌, ◌^◌, ◌<◌, ◌≤◌}
-use Rattle.std.proofs.Common.{arith, eqb, length}
+use Rattle.std.proofs.Common.{Bool, false, true, ◌||◌, cond, List, ◌≡◌, refl, ℕ, ◌+◌, ◌-◌, ◌%◌, ◌^◌, ◌<◌}
+use Rattle.std.proofs.Common.{arith, eqb}
 use Rattle.agreement.specs.Riscv.Code.{Code}
 use Rattle.agreement.specs.Statement.Premises.{Keeps}
 use Rattle.agreement.specs.X86.Form.{R12, R13, R14, R15, RAX, RBP, RBX, RDX, RSP}
@@ -9,7 +9,6 @@ use Rattle.agreement.specs.X86.Memory.{Memory, at, read}
 use Rattle.agreement.specs.X86.State.{State}
 use Rattle.agreement.proofs.Checks.Example.{clear, range}
 use Rattle.agreement.proofs.Checks.Sites.{Site, range_in, turn_at}
-use Rattle.agreement.proofs.Laws.Tests.{eqb_yes}
 use Rattle.agreement.proofs.Theorem.OneTurn.{or_left, or_right}
 
 -- the bytes of the frame and of the block as before, in numbers that are 256 more; slot x0 zero; all others 255

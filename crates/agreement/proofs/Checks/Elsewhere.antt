@@ -1,10 +1,10 @@
 -- What is asked of a helper is asked only where the block's own CALL enters it: of the turns at the thirteen sites, whose blocks call none, it
 -- would be false in a state that no step of theirs leads to, but from which a CALL of theirs could be executed.
-use Rattle.std.proofs.Common.{List, [], ◌∷◌, ◌≡◌, refl, cond, eqb, ℕ, ◌+◌, ◌-◌, ◌*◌, ◌%◌, ◌^◌, arith}
+use Rattle.std.proofs.Common.{[], ◌∷◌, ◌≡◌, refl, cond, eqb, arith}
 use Rattle.agreement.specs.Statement.Machine.{By}
 use Rattle.agreement.specs.Statement.Premises.{Keeps}
 use Rattle.agreement.specs.X86.Execute.{exec}
-use Rattle.agreement.specs.X86.Form.{Instr.call_rax, RSP}
+use Rattle.agreement.specs.X86.Form.{Instr.call_rax}
 use Rattle.agreement.specs.X86.State.{State}
 use Rattle.agreement.specs.X86.Step.{past}
 use Rattle.agreement.proofs.Checks.Example.{clear, range}

@@ -1,12 +1,11 @@
 -- The theorem applied to a block of the greatest length, 4,099 bytes, that ends at 2^64: sixty-four DIVW of a run of sixty-five, at the
 -- greatest limit. Below it stand the registers, and below them the stack.
-use Rattle.std.proofs.Common.{false, List, [], ◌∷◌, ◌≡◌, ◌∙◌, ap, refl, sym, ℕ, ◌+◌, ◌-◌, ◌*◌, ◌^◌, ◌<◌, ◌≤◌, arith, length}
-use Rattle.std.specs.Prelude.{None}
+use Rattle.std.proofs.Common.{false, List, [], ◌∷◌, ◌≡◌, ◌∙◌, ap, refl, ℕ, ◌+◌, ◌-◌, ◌*◌, ◌^◌, arith, length}
 use Rattle.agreement.specs.Cases.{copies, words}
 use Rattle.agreement.specs.Riscv.Code.{Code, run_at}
 use Rattle.agreement.specs.Riscv.Run.{GuestState, Stop.plain, write_x}
-use Rattle.agreement.specs.Statement.Agreement.{Agrees, after, feed_of, is_refused, start}
-use Rattle.agreement.specs.Statement.Machine.{By, Event, History, RegisterBytes, Steps, Turn, enter, reply, since}
+use Rattle.agreement.specs.Statement.Agreement.{Agrees, after, is_refused, start}
+use Rattle.agreement.specs.Statement.Machine.{By, Event, RegisterBytes, Steps, Turn, enter, reply, since}
 use Rattle.agreement.specs.Translation.Replies.{Block, Reply.block, walked}
 use Rattle.agreement.specs.Translation.Walk.{instrs}
 use Rattle.agreement.specs.X86.Encode.{bytes}

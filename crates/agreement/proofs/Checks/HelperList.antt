@@ -1,7 +1,7 @@
 -- The theorem applied to sixteen turns: one at each site, then the two whose helpers keep no more than is asked, and last one that is
 -- refused at the last address. What it says of these three, and of every history of the list.
-use Rattle.std.proofs.Common.{Bool, false, true, ◌&&◌, not, List, [], ◌∷◌, ◌++◌, ◌≡◌, ◌∙◌, ap, refl, sym, subst, ℕ, ◌+◌, ◌-◌, ◌*◌, ◌%◌, ◌^◌, ◌<◌, ◌≤◌}
-use Rattle.std.proofs.Common.{arith, cond, eqb, length, ltb}
+use Rattle.std.proofs.Common.{false, true, List, [], ◌∷◌, ◌++◌, ◌≡◌, ◌∙◌, ap, refl, sym, ℕ, ◌+◌, ◌-◌, ◌*◌, ◌^◌, ◌<◌}
+use Rattle.std.proofs.Common.{arith}
 use Rattle.std.specs.Prelude.{None}
 use Rattle.agreement.specs.Common.{Helper, Helper.for_access, Helper.for_halfword}
 use Rattle.agreement.specs.Riscv.Code.{run_at}
@@ -17,14 +17,14 @@ use Rattle.agreement.proofs.Checks.Alone.{Alone, addresses, alone, none}
 use Rattle.agreement.proofs.Checks.BoldHelpers.{bold, overrun, wild, wild_is}
 use Rattle.agreement.proofs.Checks.Example.{range, refused_turn}
 use Rattle.agreement.proofs.Checks.ExampleStates.{reads_a_turn}
-use Rattle.agreement.proofs.Checks.HelperTurns.{half_code, half_good, half_meets, half_reads, half_run, half_site, half_taken, half_turn}
+use Rattle.agreement.proofs.Checks.HelperTurns.{half_good, half_meets, half_reads, half_site, half_taken, half_turn}
 use Rattle.agreement.proofs.Checks.HelperTurns.{mem_good, mem_known, mem_meets, mem_read, mem_reads, mem_site, mem_taken, mem_turn, mem_x1}
-use Rattle.agreement.proofs.Checks.Jumping.{jump_pc, jump_turn, lone_site, sites, sites_jump}
-use Rattle.agreement.proofs.Checks.JumpList.{EachSays, JumpSays, after_jumps, after_sites, applied_to, jump_turns, jumps_end, jumps_met, ones, ones_x0}
+use Rattle.agreement.proofs.Checks.Jumping.{jump_pc, lone_site, sites, sites_jump}
+use Rattle.agreement.proofs.Checks.JumpList.{EachSays, after_jumps, after_sites, applied_to, jump_turns, jumps_end, jumps_met, ones, ones_x0}
 use Rattle.agreement.proofs.Checks.PremisesMet.{refused_meets}
 use Rattle.agreement.proofs.Checks.Sites.{turn_at}
 use Rattle.agreement.proofs.Theorem.AlongTheRun.{Ends, MeetsAt, Met, ends_helped, ends_here, ends_refused, met_entered, met_refused}
-use Rattle.agreement.proofs.Theorem.Consequences.{WentHelped, WentPlainly, after_helper, read_as, refused_x0}
+use Rattle.agreement.proofs.Theorem.Consequences.{WentHelped, after_helper, read_as, refused_x0}
 
 -- 1. The turns
 

@@ -1,23 +1,21 @@
 -- Two turns with the helpers of Checks/BoldHelpers, at the last two bytes of the address space: what each comes to. Both helpers go astray
 -- unless they are entered at their own address; the first also unless slot x1 is what the block's code has just computed.
-use Rattle.std.proofs.Common.{Bool, false, true, ◌&&◌, List, [], ◌∷◌, ◌≡◌, ◌∙◌, ap, refl, sym, ℕ, ◌+◌, ◌-◌, ◌*◌, ◌%◌, ◌^◌, ◌<◌, ◌≤◌}
+use Rattle.std.proofs.Common.{Bool, false, true, ◌&&◌, List, [], ◌∷◌, ◌≡◌, ◌∙◌, ap, refl, sym, ℕ, ◌+◌, ◌-◌, ◌*◌, ◌%◌, ◌^◌, ◌<◌}
 use Rattle.std.proofs.Common.{arith, eqb, length}
 use Rattle.std.specs.Prelude.{Option, None, Some}
 use Rattle.agreement.specs.Common.{Helper, Helper.for_access, Helper.for_halfword}
 use Rattle.agreement.specs.Riscv.Code.{Code, run_at}
 use Rattle.agreement.specs.Riscv.Immediates as Manual
 use Rattle.agreement.specs.Riscv.Instruction.{value_op_imm}
-use Rattle.agreement.specs.Riscv.Run.{GuestState, Read, Registers, Stop.called, help, write_x}
-use Rattle.agreement.specs.Statement.Agreement.{Entered, feed_of, helper_of, is_refused, start}
-use Rattle.agreement.specs.Statement.Machine.{By, Call, RegisterBytes, Steps, Turn, Visit, enter, reply}
-use Rattle.agreement.specs.Statement.Premises.{Keeps}
-use Rattle.agreement.specs.Translation.Replies.{Block, Reply.block, Reply, walked}
+use Rattle.agreement.specs.Riscv.Run.{GuestState, Read, Stop.called, help, write_x}
+use Rattle.agreement.specs.Statement.Agreement.{Entered, helper_of, is_refused, start}
+use Rattle.agreement.specs.Statement.Machine.{Call, RegisterBytes, Turn, reply}
+use Rattle.agreement.specs.Translation.Replies.{Block, Reply.block, walked}
 use Rattle.agreement.specs.Translation.Walk.{instrs}
 use Rattle.agreement.specs.X86.Encode.{bytes}
-use Rattle.agreement.specs.X86.Form.{Instr.call_rax}
 use Rattle.agreement.specs.X86.Memory.{read}
 use Rattle.agreement.specs.X86.State.{State}
-use Rattle.agreement.proofs.Checks.BoldHelpers.{bold, bold_keeps, overrun, wild, wild_is}
+use Rattle.agreement.proofs.Checks.BoldHelpers.{bold_keeps, overrun, wild, wild_is}
 use Rattle.agreement.specs.Cases.{words}
 use Rattle.agreement.proofs.Checks.CasesHold.{immediates, translations}
 use Rattle.agreement.proofs.Checks.Example.{range}

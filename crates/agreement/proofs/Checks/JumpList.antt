@@ -1,8 +1,8 @@
 -- The theorem applied to a turn at each of thirteen sites, from any register bytes whose slot x0 is zero: what it says of every turn, and
 -- of every history of the list.
-use Rattle.std.proofs.Common.{Bool, false, true, ◌&&◌, not, List, [], ◌∷◌, ◌++◌, ◌≡◌, ◌∙◌, ap, refl, sym, subst, ℕ, suc, ◌+◌, ◌-◌, ◌*◌, ◌%◌, ◌^◌, ◌<◌, ◌≤◌}
-use Rattle.std.proofs.Common.{arith, cond, eqb, length, ltb, min}
-use Rattle.agreement.specs.Riscv.Run.{GuestState, Registers, Stop.plain, Read, jump}
+use Rattle.std.proofs.Common.{false, true, List, [], ◌∷◌, ◌++◌, ◌≡◌, ◌∙◌, ap, refl, sym, subst, ℕ, ◌+◌, ◌-◌, ◌*◌, ◌^◌, ◌<◌}
+use Rattle.std.proofs.Common.{arith, cond, ltb}
+use Rattle.agreement.specs.Riscv.Run.{GuestState, Registers, Stop.plain, Read}
 use Rattle.agreement.specs.Statement.Agreement.{Agreement, Agrees, after, own, start}
 use Rattle.agreement.specs.Statement.Machine.{Event, History, RegisterBytes, Turn, Visit, since}
 use Rattle.agreement.specs.X86.Form.{RAX, RDX, RSP}

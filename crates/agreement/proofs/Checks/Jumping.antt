@@ -1,6 +1,6 @@
 -- Turns that jump to where they stand, at thirteen sites: block, register bytes and stack touch each other in each order, begin at address
 -- 0 and end at 2^64. The code stands in the last two and the first two bytes of the address space; no helper is called, nor keeps anything.
-use Rattle.std.proofs.Common.{Bool, false, true, ◌&&◌, not, List, [], ◌∷◌, ◌++◌, ◌≡◌, ◌∙◌, ◌≢◌, ap, refl, sym, ℕ, suc, ◌+◌, ◌-◌, ◌*◌, ◌%◌, ◌^◌, ◌<◌, ◌≤◌}
+use Rattle.std.proofs.Common.{Bool, false, true, ◌&&◌, not, List, [], ◌∷◌, ◌≡◌, ◌∙◌, ◌≢◌, ap, refl, sym, ℕ, suc, ◌+◌, ◌-◌, ◌^◌}
 use Rattle.std.proofs.Common.{arith, eqb, length, min}
 use Rattle.std.specs.Prelude.{Option, None, Some}
 use Rattle.agreement.specs.Riscv.Code.{Code, run_at}
@@ -8,7 +8,6 @@ use Rattle.agreement.specs.Riscv.Immediates as Manual
 use Rattle.agreement.specs.Riscv.Run.{GuestState, Read, Registers, Stop.called, Stop.plain, jump, reading, write_x}
 use Rattle.agreement.specs.Statement.Agreement.{Entered, feed_of, is_refused, start}
 use Rattle.agreement.specs.Statement.Machine.{By, Call, RegisterBytes, Steps, Turn, Visit, enter, reply}
-use Rattle.agreement.specs.Statement.Premises.{Keeps}
 use Rattle.agreement.specs.Translation.Replies.{Block, Reply.block}
 use Rattle.agreement.specs.Translation.Walk.{instrs, walk}
 use Rattle.agreement.specs.X86.Encode.{bytes}

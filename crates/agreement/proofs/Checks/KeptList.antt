@@ -1,25 +1,25 @@
 -- The theorem on kept blocks applied to sixteen turns, those of Checks/HelperList: behind what each block spans the code is now another, in
 -- the last two bytes of the address space and the first, and no more of it can be fetched than the block spans.
-use Rattle.std.proofs.Common.{Bool, false, true, ◌&&◌, List, [], ◌∷◌, ◌++◌, ◌≡◌, ◌∙◌, ◌≢◌, ap, refl, sym, subst, cond, ℕ, zero, suc, ◌+◌, ◌-◌, ◌*◌, ◌^◌, ◌<◌, ◌≤◌}
-use Rattle.std.proofs.Common.{arith, eqb, length, min}
+use Rattle.std.proofs.Common.{false, true, List, [], ◌∷◌, ◌++◌, ◌≡◌, ◌∙◌, ap, refl, sym, ℕ, zero, suc, ◌-◌, ◌^◌}
+use Rattle.std.proofs.Common.{arith, length, min}
 use Rattle.std.specs.Prelude.{Option, None, Some}
 use Rattle.agreement.specs.Common.{Helper, Helper.for_access, Helper.for_halfword}
-use Rattle.agreement.specs.Riscv.Code.{Code, SameIn, run_at}
-use Rattle.agreement.specs.Riscv.Run.{GuestState, Read, Stop.called, jump, manual, read_turn, turn}
+use Rattle.agreement.specs.Riscv.Code.{SameIn, run_at}
+use Rattle.agreement.specs.Riscv.Run.{GuestState, Stop.called, jump, manual, read_turn, turn}
 use Rattle.agreement.specs.Statement.Agreement.{Along, after, feed, is_refused, start}
-use Rattle.agreement.specs.Statement.Kept.{AgreesNow, AlongNow, Current, Kept, ReadsAlike, feed_now, feeds_now, refuses_now, turns}
-use Rattle.agreement.specs.Statement.Machine.{Event, History, History.then, RegisterBytes, Turn, reply}
+use Rattle.agreement.specs.Statement.Kept.{AgreesNow, AlongNow, Current, Kept, feed_now, feeds_now, refuses_now, turns}
+use Rattle.agreement.specs.Statement.Machine.{Event, History, History.then, RegisterBytes, reply}
 use Rattle.agreement.specs.Statement.Premises.{Unchanged, rests_on_code}
-use Rattle.agreement.specs.Translation.Replies.{Block, Refusal, Reply.block, Reply.refusal, block_of, translate, walked}
+use Rattle.agreement.specs.Translation.Replies.{Block, Reply.block, Reply.refusal, block_of, translate, walked}
 use Rattle.agreement.specs.Translation.Walk.{walk}
 use Rattle.agreement.specs.X86.State.{State}
 use Rattle.agreement.specs.Cases.{words}
 use Rattle.agreement.proofs.Checks.CasesHold.{immediates, translations}
-use Rattle.agreement.proofs.Checks.HelperList.{Sixteen, after_half, after_mem, half_called, last_meets, last_refused, last_turn, mem_called, n0, n1, n2, n2_high}
-use Rattle.agreement.proofs.Checks.HelperList.{sixteen, sixteen_ends, three, to_n0}
+use Rattle.agreement.proofs.Checks.HelperList.{Sixteen, after_half, after_mem, half_called, last_meets, last_turn, mem_called, n0, n1, n2, n2_high}
+use Rattle.agreement.proofs.Checks.HelperList.{sixteen, sixteen_ends, to_n0}
 use Rattle.agreement.proofs.Checks.HelperTurns.{half_code, half_meets, half_run, half_taken, half_turn, mem_code, mem_meets, mem_run, mem_taken, mem_turn}
 use Rattle.agreement.proofs.Checks.Jumping.{Jumps, all_jump, jump_code, jump_meets, jump_pc, jump_reads, jump_run, jump_taken, jump_turn, jumps_at, jumps_lem}
-use Rattle.agreement.proofs.Checks.Jumping.{lone_site, sites, sites_jump, some_limit}
+use Rattle.agreement.proofs.Checks.Jumping.{sites, sites_jump, some_limit}
 use Rattle.agreement.proofs.Checks.JumpList.{after_jumps, after_one, further, jump_stops, jump_turns, ones, ones_x0}
 use Rattle.agreement.proofs.Checks.KeptBlocks.{MetNow, applied_now, reads_as, span_of}
 use Rattle.agreement.proofs.Checks.Sites.{Site, both}

@@ -1,9 +1,9 @@
 -- Which call a block comes to does not depend on what its helper does: with a helper in its place that keeps all that is asked, wherever it
 -- is entered, the theorem says how the block goes. So a helper need keep what is asked only where the block's own CALL enters it.
-use Rattle.std.proofs.Common.{List, ◌∷◌, ◌≡◌, ◌∙◌, ap, refl, subst, sym, ℕ, ◌+◌, ◌-◌, ◌*◌, ◌%◌, ◌^◌, ◌<◌, ◌≤◌, arith, length}
+use Rattle.std.proofs.Common.{List, ◌≡◌, ◌∙◌, ap, refl, subst, sym, ℕ, ◌+◌, ◌-◌, ◌%◌, ◌^◌, ◌<◌, arith, length}
 use Rattle.std.specs.Prelude.{Option, None, Some}
 use Rattle.agreement.specs.Riscv.Code.{Code, run_at}
-use Rattle.agreement.specs.Riscv.Run.{GuestState, Read, read_turn}
+use Rattle.agreement.specs.Riscv.Run.{GuestState, read_turn}
 use Rattle.agreement.specs.Translation.Replies.{Block, Refusal, Reply.block, Reply.refusal}
 use Rattle.agreement.specs.Statement.Agreement.{At, Entered, feed_of, start}
 use Rattle.agreement.specs.Statement.Machine.{By, Call, Event, RegisterBytes, Steps, Turn, Turned, Visit, Went, enter, reply}

@@ -1,7 +1,7 @@
 -- Turns whose block, register bytes and stack stand wherever the premises let them: what a site must fit, by one Boolean test, and that a
 -- turn at such a site is laid out. Only the bytes of the three may be touched, and the numbers of a turn are the greatest of their types.
-use Rattle.std.proofs.Common.{Bool, false, true, ◌&&◌, ◌||◌, List, ◌∷◌, ◌≢◌, ◌≡◌, ap, refl, cond, not, ℕ, ◌+◌, ◌-◌, ◌*◌, ◌%◌, ◌^◌, ◌≤◌, ◌<◌, arith}
-use Rattle.std.proofs.Common.{eqb, leb, ltb, length, replicate}
+use Rattle.std.proofs.Common.{Bool, false, true, ◌&&◌, ◌||◌, List, ◌≡◌, refl, ℕ, ◌+◌, ◌-◌, ◌%◌, ◌^◌, ◌≤◌, ◌<◌, arith}
+use Rattle.std.proofs.Common.{eqb, leb, length, replicate}
 use Rattle.agreement.specs.Riscv.Code.{Code}
 use Rattle.agreement.specs.Statement.Machine.{Turn}
 use Rattle.agreement.specs.Statement.Premises.{Apart, Layout}
