@@ -32,7 +32,7 @@ abbrev code : Code
 code = held jump_pc run
 
 abbrev site : Site
-site = record { limit = 2 ^ 64 - 1; size = 4099; block = 2 ^ 64 - 4099; base = 2 ^ 64 - 4360; sp = 2 ^ 64 - 4376 }
+site = record { limit = 2 ^ 64 - 1; size = 4099; room = 4099; block = 2 ^ 64 - 4099; base = 2 ^ 64 - 4360; sp = 2 ^ 64 - 4376 }
 
 abbrev great_turn : Turn
 great_turn = turn_at site code run (λ u. u)

@@ -37,7 +37,7 @@ abbrev pub mem_code : Code
 mem_code = held jump_pc mem_run
 
 abbrev pub mem_site : Site
-mem_site = record { limit = 64; size = 116; block = 0x20001; base = 0x10000; sp = 0x30008 }
+mem_site = record { limit = 64; size = 116; room = 4099; block = 0x20001; base = 0x10000; sp = 0x30008 }
 
 -- entered at the helper's address, with 5 in slot x1
 abbrev pub mem_good : State → Bool
@@ -55,7 +55,7 @@ abbrev pub half_code : Code
 half_code = held jump_pc half_run
 
 abbrev pub half_site : Site
-half_site = record { limit = 1; size = 88; block = 2 ^ 64 - 416; base = 2 ^ 64 - 256; sp = 2 ^ 64 - 264 }
+half_site = record { limit = 1; size = 88; room = 4099; block = 2 ^ 64 - 416; base = 2 ^ 64 - 256; sp = 2 ^ 64 - 264 }
 
 abbrev pub half_good : State → Bool
 half_good u = eqb u.rip (2 ^ 64 - 1)

@@ -1,6 +1,6 @@
 -- Turns that jump to where they stand, at thirteen sites: block, register bytes and stack touch each other in each order, begin at address
 -- 0 and end at 2^64. The code stands in the last two and the first two bytes of the address space; no helper is called, nor keeps anything.
-use Rattle.std.proofs.Common.{Bool, false, true, ◌&&◌, not, List, [], ◌∷◌, ◌≡◌, ◌∙◌, ◌≢◌, ap, refl, sym, ℕ, suc, ◌+◌, ◌-◌, ◌^◌}
+use Rattle.std.proofs.Common.{◌≤◌, leb, ltb, replicate, Bool, false, true, ◌&&◌, not, List, [], ◌∷◌, ◌≡◌, ◌∙◌, ◌≢◌, ap, refl, sym, ℕ, suc, ◌+◌, ◌-◌, ◌^◌}
 use Rattle.std.proofs.Common.{arith, eqb, length, min}
 use Rattle.std.specs.Prelude.{Option, None, Some}
 use Rattle.agreement.specs.Riscv.Code.{Code, run_at}
@@ -20,7 +20,8 @@ use Rattle.agreement.proofs.Checks.ExampleStates.{reads_a_turn}
 use Rattle.agreement.proofs.Checks.OneCall.{Called, CalledAs, called_as, tidy}
 use Rattle.agreement.proofs.Checks.Sites.{Fits, Site, both, fits, fits_lem, laid_out, turn_at}
 use Rattle.agreement.proofs.Laws.Runs.{held}
-use Rattle.agreement.proofs.Laws.Tests.{eqb-true, eqb_no}
+use Rattle.std.proofs.lemmas.List.{length-replicate}
+use Rattle.agreement.proofs.Laws.Tests.{leb-true, leb_no, eqb-true, eqb_no}
 use Rattle.agreement.proofs.Theorem.AlongTheRun.{MeetsAt}
 use Rattle.agreement.proofs.Theorem.Consequences.{read_as}
 use Rattle.agreement.proofs.Theorem.RefusedAlike.{is_walk, made_halfwords}
@@ -39,24 +40,29 @@ jump_code = held jump_pc jump_run
 abbrev pub jump_turn : Site → Turn
 jump_turn s = turn_at s jump_code jump_run (λ u. u)
 
--- a site with a block of 67 bytes, as this word's is, and a limit that is not 0
+-- a site with a block of 67 bytes, as this word's is, a limit that is not 0, and an output that is large enough
 unfoldable pub jumps_at : Site → Bool
-jumps_at s = fits s && (eqb s.size 67 && not (eqb s.limit 0))
+jumps_at s = fits s && (eqb s.size 67 && (not (eqb s.limit 0) && leb 4099 s.room))
 
 pub record Jumps (s : Site) : Type 0 where
   pub fit : Fits s
   pub size : s.size ≡ 67
   pub limit : s.limit ≢ 0
+  pub room : ltb (length {A = ℕ} (replicate s.room 0)) 4099 ≡ false
 
 not_zero : (n : ℕ) → not (eqb n 0) ≡ true → n ≢ 0
 not_zero n h e = let z : not (eqb 0 0) ≡ true = rw e at h in let o : ◌≡◌ {A = ℕ} 0 1 = cc in omega arith
+
+large : (n : ℕ) → 4099 ≤ n → ltb (length {A = ℕ} (replicate n 0)) 4099 ≡ false
+large n h = rw (length-replicate {A = ℕ} n 0) (leb_no (suc n) 4099 (omega (arith, h)))
 
 pub jumps_lem : (s : Site) → jumps_at s ≡ true → Jumps s
 unfolding jumps_at
 jumps_lem s h =
     let p = both (fits s) _ h in
     let q = both (eqb s.size 67) _ p.1 in
-    record { fit = fits_lem s p.0; size = eqb-true _ _ q.0; limit = not_zero _ q.1 }
+    let r = both (not (eqb s.limit 0)) _ q.1 in
+    record { fit = fits_lem s p.0; size = eqb-true _ _ q.0; limit = not_zero _ r.0; room = large s.room (leb-true 4099 s.room r.1) }
 
 -- 2. What its turn comes to, whatever the limit
 
@@ -69,7 +75,7 @@ reads_once k x = refl
 
 pub jump_taken : (s : Site) (m : GuestState) → Jumps s → m.pc ≡ jump_pc → is_refused (jump_turn s) m ≡ false
 unfolding reads_a_turn
-jump_taken s m j e = rw (e, eqb_no s.limit 0 j.limit) refl
+jump_taken s m j e = rw (e, eqb_no s.limit 0 j.limit) j.room
 
 pub jump_reads : (s : Site) (m : GuestState) → Jumps s → m.pc ≡ jump_pc → read_as (jump_turn s) m ≡ jump m.registers jump_pc
 unfolding feed_of words
@@ -86,7 +92,7 @@ unchanged = refl
 
 pub jump_long : (s : Site) → Jumps s → (b : Block) → reply (jump_turn s) jump_pc ≡ block b → length b.code ≡ s.size
 jump_long s j b e =
-    let w = is_walk jump_pc s.limit jump_run (2 ^ 64 - 1) (2 ^ 64 - 1) 4099 b (made_halfwords (jump_turn s) jump_pc unchanged) e in
+    let w = is_walk jump_pc s.limit jump_run (2 ^ 64 - 1) (2 ^ 64 - 1) (length (jump_turn s).output) b (made_halfwords (jump_turn s) jump_pc unchanged) e in
     ap (λ (x : Block). length x.code) w.is
     ∙ rw (some_limit s.limit j.limit) (long_once (min s.limit 64 - 1)) ∙ sym j.size
 
@@ -125,7 +131,11 @@ jump_meets s j = record {
 
 -- 3. The sites. B, R and S stand for block, registers and stack, in the order of their addresses
 abbrev site : ℕ → ℕ → ℕ → ℕ → Site
-site l b r p = record { limit = l; size = 67; block = b; base = r; sp = p }
+site l b r p = record { limit = l; size = 67; room = 4099; block = b; base = r; sp = p }
+
+-- a limit that is no number of 64 bits, an output longer than it need be; R and S on both sides of 2^32, B around 2^47
+abbrev roomy_site : Site
+roomy_site = record { limit = 2 ^ 64; size = 67; room = 5000; block = 2 ^ 47 - 1; base = 2 ^ 32 - 256; sp = 2 ^ 32 + 72 }
 
 -- nothing near anything else, the block at an odd address: what it leaves alone is read off here
 abbrev pub lone_site : Site
@@ -148,8 +158,8 @@ sites =
     -- R B up to 2^64, the stack at the bottom; B at the top, R at the bottom and S at 2^63; the greatest limit of a u32
     ∷ site 64 (2 ^ 64 - 67) (2 ^ 64 - 323) 72
     ∷ site (2 ^ 32 - 1) (2 ^ 64 - 67) 0 (2 ^ 63 + 8)
-    -- a limit that is no number of 64 bits; R and S on both sides of 2^32, B behind 2^47
-    ∷ site (2 ^ 64) (2 ^ 47 - 1) (2 ^ 32 - 256) (2 ^ 32 + 72)
+    ∷ roomy_site
+    -- S R B around 2^63
     ∷ site 1 (2 ^ 63 - 1) (2 ^ 63 - 257) (2 ^ 63 - 328) ∷ []
 
 unfoldable pub all_jump : List Site → Bool

@@ -10,7 +10,7 @@ use Rattle.agreement.specs.Statement.Agreement.{Along, after, feed, is_refused, 
 use Rattle.agreement.specs.Statement.Kept.{AgreesNow, AlongNow, Current, Kept, feed_now, feeds_now, refuses_now, turns}
 use Rattle.agreement.specs.Statement.Machine.{Event, History, History.then, RegisterBytes, reply}
 use Rattle.agreement.specs.Statement.Premises.{Unchanged, rests_on_code}
-use Rattle.agreement.specs.Translation.Replies.{Block, Reply.block, Reply.refusal, block_of, translate, walked}
+use Rattle.agreement.specs.Translation.Replies.{Block, Reply.block, Reply.refusal, block_of, by_first, translate, walked}
 use Rattle.agreement.specs.Translation.Walk.{walk}
 use Rattle.agreement.specs.X86.State.{State}
 use Rattle.agreement.specs.Cases.{words}
@@ -65,7 +65,7 @@ turns_are = refl
 jump_reply : (s : Site) → Jumps s
     → reply (jump_turn s) jump_pc ≡ block (block_of (2 ^ 64 - 1) (2 ^ 64 - 1) (walked jump_pc s.limit jump_run))
 unfolding immediates translations words
-jump_reply s j = rw (eqb_no s.limit 0 j.limit, translate) refl
+jump_reply s j = rw (eqb_no s.limit 0 j.limit, translate) (rw (j.room, by_first) refl)
 
 jump_rests : (s : Site) → Jumps s → rests_on_code (reply (jump_turn s) jump_pc) ≡ true
 jump_rests s j = rw (jump_reply s j)

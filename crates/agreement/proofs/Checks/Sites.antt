@@ -15,6 +15,7 @@ use Rattle.agreement.proofs.Theorem.OneTurn.{between, or_left, or_right}
 pub record Site : Type 0 where
   pub limit : ℕ
   pub size : ℕ
+  pub room : ℕ
   pub block : ℕ
   pub base : ℕ
   pub sp : ℕ
@@ -35,7 +36,7 @@ turn_at s code hs helper = record {
   reach = length hs;
   helper16 = 2 ^ 64 - 1;
   helper_mem = 2 ^ 64 - 1;
-  output = replicate 4099 0;
+  output = replicate s.room 0;
   block = s.block;
   base = s.base;
   sp = s.sp;
