@@ -17,7 +17,7 @@ use Rattle.agreement.proofs.Checks.ExampleStates.{reads_a_turn}
 use Rattle.agreement.proofs.Checks.Jumping.{jump_pc, not_called}
 use Rattle.agreement.proofs.Checks.JumpList.{applied_to, ones, ones_x0}
 use Rattle.agreement.proofs.Checks.OneCall.{CalledAs, called_as, tidy}
-use Rattle.agreement.proofs.Checks.Sites.{Fits, Site, fits, fits_lem, laid_out, turn_at}
+use Rattle.agreement.proofs.Checks.Sites.{Fits, Site, fits, fits_lem, laid_out, turn_at, fetched}
 use Rattle.agreement.proofs.Laws.Runs.{held}
 use Rattle.agreement.proofs.Theorem.AlongTheRun.{Ends, MeetsAt, Met, ends_here, ends_plain, met_plain}
 use Rattle.agreement.proofs.Theorem.Consequences.{WentPlainly, after_plain, read_as}
@@ -45,7 +45,7 @@ long : length (bytes (instrs (2 ^ 64 - 1) (2 ^ 64 - 1) (walked jump_pc (2 ^ 64 -
 unfolding immediates translations words copies
 long = refl
 
-unchanged : run ≡ run_at code jump_pc (length run)
+unchanged : run ≡ run_at code jump_pc (fetched run)
 unfolding words copies run_at
 unchanged = refl
 

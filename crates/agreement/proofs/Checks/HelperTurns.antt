@@ -22,7 +22,7 @@ use Rattle.agreement.proofs.Checks.Example.{range}
 use Rattle.agreement.proofs.Checks.ExampleStates.{reads_a_turn}
 use Rattle.agreement.proofs.Checks.Jumping.{jump_pc}
 use Rattle.agreement.proofs.Checks.OneCall.{Called, CalledAs, called_as, tidy}
-use Rattle.agreement.proofs.Checks.Sites.{Fits, Site, fits, fits_lem, laid_out, turn_at}
+use Rattle.agreement.proofs.Checks.Sites.{Fits, Site, fits, fits_lem, laid_out, turn_at, fetched}
 use Rattle.agreement.proofs.Laws.Runs.{held}
 use Rattle.agreement.proofs.Theorem.AlongTheRun.{MeetsAt}
 use Rattle.agreement.proofs.Theorem.Consequences.{read_as}
@@ -73,11 +73,11 @@ half_size : length (bytes (instrs (2 ^ 64 - 1) (2 ^ 64 - 1) (walked jump_pc 1 ha
 unfolding immediates translations words
 half_size = refl
 
-mem_unchanged : mem_run ≡ run_at mem_code jump_pc (length mem_run)
+mem_unchanged : mem_run ≡ run_at mem_code jump_pc (fetched mem_run)
 unfolding words run_at
 mem_unchanged = refl
 
-half_unchanged : half_run ≡ run_at half_code jump_pc (length half_run)
+half_unchanged : half_run ≡ run_at half_code jump_pc (fetched half_run)
 unfolding run_at
 half_unchanged = refl
 
@@ -148,7 +148,7 @@ inside s g hs rb b u a w = go w.v.call w.says w.called
     }
 
 turn_meets : (s : Site) (g : Code) (hs : List ℕ) (good : State → Bool) (rax : ℕ) → Fits s → rax < 2 ^ 64
-    → hs ≡ run_at g jump_pc (length hs)
+    → hs ≡ run_at g jump_pc (fetched hs)
     → ((b : Block) → reply (turn_at s g hs (wild good s rax)) jump_pc ≡ block b → length b.code ≡ s.size)
     → ((a : State) → read 8 (overrun s a.mem) s.base ≡ 0)
     → ((rb : RegisterBytes) (a : State) → read 8 rb 0 ≡ 0 → Inside s (read_as (turn_at s g hs (tidy s)) (start jump_pc rb)) a

@@ -18,7 +18,7 @@ use Rattle.agreement.specs.Cases.{words}
 use Rattle.agreement.proofs.Checks.CasesHold.{immediates, translations}
 use Rattle.agreement.proofs.Checks.ExampleStates.{reads_a_turn}
 use Rattle.agreement.proofs.Checks.OneCall.{Called, CalledAs, called_as, tidy}
-use Rattle.agreement.proofs.Checks.Sites.{Fits, Site, both, fits, fits_lem, laid_out, turn_at}
+use Rattle.agreement.proofs.Checks.Sites.{Fits, Site, both, fits, fits_lem, laid_out, turn_at, fetched}
 use Rattle.agreement.proofs.Laws.Runs.{held}
 use Rattle.std.proofs.lemmas.List.{length-replicate}
 use Rattle.agreement.proofs.Laws.Tests.{leb-true, leb_no, eqb-true, eqb_no}
@@ -69,7 +69,7 @@ jumps_lem s h =
 pub some_limit : (n : ℕ) → n ≢ 0 → min n 64 ≡ suc (min n 64 - 1)
 some_limit n h = omega (arith, h)
 
-reads_once : (k : ℕ) (x : Registers) → reading (suc k) jump_pc (run_at jump_code jump_pc 2) x ≡ jump x jump_pc
+reads_once : (k : ℕ) (x : Registers) → reading (suc k) jump_pc (run_at jump_code jump_pc 3) x ≡ jump x jump_pc
 unfolding reads_a_turn Manual.sign_extend write_x
 reads_once k x = refl
 
@@ -86,7 +86,7 @@ long_once : (k : ℕ) → length (bytes (instrs (2 ^ 64 - 1) (2 ^ 64 - 1) (walk 
 unfolding immediates translations words
 long_once k = refl
 
-unchanged : jump_run ≡ run_at jump_code jump_pc (length jump_run)
+unchanged : jump_run ≡ run_at jump_code jump_pc (fetched jump_run)
 unfolding words run_at
 unchanged = refl
 

@@ -14,7 +14,7 @@ use Rattle.agreement.specs.Statement.Premises.{Enterable, Keeps}
 use Rattle.agreement.specs.X86.Form.{Instr.call_rax, Instr.ret, RAX, RDX, RSP}
 use Rattle.agreement.specs.X86.Memory.{at, read, write}
 use Rattle.agreement.specs.X86.State.{State, set}
-use Rattle.agreement.proofs.Checks.Sites.{Fits, Site, laid_out, turn_at}
+use Rattle.agreement.proofs.Checks.Sites.{Fits, Site, laid_out, turn_at, fetched}
 use Rattle.agreement.proofs.Host.Memory.{read-write, write_out}
 use Rattle.agreement.proofs.Theorem.Agreement.{x0_at_start}
 use Rattle.agreement.proofs.Theorem.Determined.{Turns.by_call, Turns.by_ret, by_from, goes_once, halts, instr_once, not_call, once}
@@ -106,7 +106,7 @@ pub record CalledAs (s : Site) (g : Code) (hs : List ℕ) (pc : ℕ) (rb : Regis
   pub called : Called v.call u a
 
 pub called_as : (s : Site) (g : Code) (hs : List ℕ) (h : State → State) (pc : ℕ) (rb : RegisterBytes) (b : Block) (u a : State)
-    (k : ℕ) (ws xs : List ℕ) → Fits s → pc < 2 ^ 64 → read 8 rb 0 ≡ 0 → hs ≡ run_at g pc (length hs)
+    (k : ℕ) (ws xs : List ℕ) → Fits s → pc < 2 ^ 64 → read 8 rb 0 ≡ 0 → hs ≡ run_at g pc (fetched hs)
     → ((c : Block) → reply (turn_at s g hs h) pc ≡ block c → length c.code ≡ s.size) → reply (turn_at s g hs h) pc ≡ block b
     → Steps (turn_at s g hs h) (enter (turn_at s g hs h) b.code rb) k ws u → By (turn_at s g hs h) call_rax u a xs
     → CalledAs s g hs pc rb b u a

@@ -27,13 +27,17 @@ set_all = record { cf = true; pf = true; af = true; zf = true; sf = true; of = t
 unfoldable pub usable : ℕ → ℕ → ℕ → Bool
 usable base sp x = range base 256 x || range (sp - 64) 72 x
 
+-- one halfword more than the run has was asked for, and not there
+abbrev pub fetched : List ℕ → ℕ
+fetched hs = length hs + 1
+
 -- the sixteen registers at entry are 2^64 - 16 to 2^64 - 1, all flags are set, and no byte of memory is in a number below 2^64
 abbrev pub turn_at : Site → Code → List ℕ → (State → State) → Turn
 turn_at s code hs helper = record {
   limit = s.limit;
   made = hs;
   code = code;
-  reach = length hs;
+  reach = fetched hs;
   helper16 = 2 ^ 64 - 1;
   helper_mem = 2 ^ 64 - 1;
   output = replicate s.room 0;
