@@ -1,5 +1,5 @@
--- What is asked of a helper is asked only where the block's own CALL enters it: of the turns at the thirteen sites, whose blocks call none, it
--- would be false in a state that no step of theirs leads to, but from which a CALL of theirs could be executed.
+-- What is asked of a helper is asked only where the block's own CALL enters it: of the turns at the thirteen sites, whose blocks call none,
+-- it would be false in a state that no step of theirs leads to, but from which a CALL of theirs could be executed.
 use Rattle.std.proofs.Common.{[], ◌∷◌, ◌≡◌, refl, cond, eqb, arith}
 use Rattle.agreement.specs.Statement.Machine.{By}
 use Rattle.agreement.specs.Statement.Premises.{Keeps}

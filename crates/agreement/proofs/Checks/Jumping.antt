@@ -92,7 +92,9 @@ unchanged = refl
 
 pub jump_long : (s : Site) → Jumps s → (b : Block) → reply (jump_turn s) jump_pc ≡ block b → length b.code ≡ s.size
 jump_long s j b e =
-    let w = is_walk jump_pc s.limit jump_run (2 ^ 64 - 1) (2 ^ 64 - 1) (length (jump_turn s).output) b (made_halfwords (jump_turn s) jump_pc unchanged) e in
+    let w =
+    is_walk jump_pc s.limit jump_run (2 ^ 64 - 1) (2 ^ 64 - 1) (length (jump_turn s).output) b
+    (made_halfwords (jump_turn s) jump_pc unchanged) e in
     ap (λ (x : Block). length x.code) w.is
     ∙ rw (some_limit s.limit j.limit) (long_once (min s.limit 64 - 1)) ∙ sym j.size
 
