@@ -1,5 +1,5 @@
 -- The history of the exported functions applied to the operations of crate entry's example (its proofs/Applied), by calls that can be made.
-use Rattle.std.proofs.Common.{◌≡◌, refl, List, [], ◌∷◌, ℕ, arith}
+use Rattle.std.proofs.Common.{◌≡◌, refl, [], ℕ, arith}
 use Rattle.entry.specs.Index.{blank, touches}
 use Rattle.entry.specs.History.{after, events}
 use Rattle.entry.specs.declared.Entry.{Entry}

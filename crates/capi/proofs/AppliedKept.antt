@@ -1,11 +1,10 @@
 -- The statements on kept blocks, of the exported functions, applied to the operations of crate coherence's example (its proofs/Applied), by
 -- calls that can be made.
-use Rattle.std.proofs.Common.{◌≡◌, refl, List, [], ℕ, ◌-◌}
+use Rattle.std.proofs.Common.{refl, [], ◌-◌}
 use Rattle.agreement.specs.Riscv.Code.{run_at}
 use Rattle.agreement.specs.Cases.{words}
 use Rattle.agreement.proofs.Checks.CasesHold.{translations}
-use Rattle.entry.specs.Index.{is_in_use, find, touches}
-use Rattle.entry.specs.declared.Entry.{Entry}
+use Rattle.entry.specs.Index.{touches}
 use Rattle.entry.proofs.Applied.{many}
 use Rattle.coherence.specs.Keeping.{after, AllCurrent, IsCurrent}
 use Rattle.coherence.specs.Entering.{MayBeEntered}

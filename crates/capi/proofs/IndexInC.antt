@@ -1,15 +1,11 @@
 -- The history of the exported functions: each contract gives what the definitions say, and a call that gives it can be made.
-use Rattle.std.specs.Prelude.{Option, Some, None}
-use Rattle.std.specs.List.{list_any, position_or_len}
-use Rattle.std.proofs.Common.{◌≡◌, refl, sym, ap, subst, Bool, true, false, cond, List, [], ◌∷◌, ℕ}
-use Rattle.entry.specs.Index.{find, insert_answer, insert, taken}
+use Rattle.std.proofs.Common.{refl, ap, List, []}
+use Rattle.entry.specs.Index.{find, insert_answer}
 use Rattle.entry.specs.History.{Event, Operation, Operation.inserts, Operation.empties, Operation.drops, outcome}
-use Rattle.entry.specs.declared.Key.{Key}
 use Rattle.entry.specs.declared.Entry.{Entry}
-use Rattle.entry.specs.declared.NativeBlock.{NativeBlock}
 use Rattle.index.proofs.Along.{told_by, left_by, Meets, history_of, reached}
 use Rattle.capi.specs.Replies.{padded}
-use Rattle.capi.specs.Indexes.{told, RepliesToInsert}
+use Rattle.capi.specs.Indexes.{told}
 use Rattle.capi.specs.HistoryInC.{Finds, Does, HistoryInC, CallsCanBeMade}
 use Rattle.capi.specs.declared.Reply.{Reply}
 

@@ -1,19 +1,17 @@
 -- Blocks that are kept, of the exported functions: each contract gives what the definitions say, and a call that gives it can be made.
 use Rattle.std.specs.Prelude.{Option, Some, None}
-use Rattle.std.specs.List as Lists
-use Rattle.std.proofs.Common.{◌≡◌, ◌≢◌, refl, sym, ap, ◌∙◌, subst, Bool, true, false, cond, true≢false, List, [], ◌∷◌, ℕ, ◌<◌, length, replicate, arith}
+use Rattle.std.proofs.Common.{◌≡◌, ◌≢◌, refl, sym, ap, ◌∙◌, true, true≢false, List, ℕ, ◌<◌, length, replicate, arith}
 use Rattle.std.proofs.lemmas.List.{length-replicate}
 use Rattle.agreement.specs.Translation.Replies.{Block, Reply.block, Reply.refusal, output_after, numbered, translate}
 use Rattle.agreement.specs.Translation.Replies.Refusal.{limit_zero, odd_start, missing, not_taken, output_short}
 use Rattle.agreement.specs.Translation.Replies as Translation
 use Rattle.entry.specs.Index.{is_in_use, find, insert_answer, insert}
-use Rattle.entry.specs.declared.Key.{Key}
 use Rattle.entry.specs.declared.Entry.{Entry}
-use Rattle.coherence.specs.Keeping.{Codes, Request, reply_to, run_for, key, native, Operation, Operation.translates, Operation.writes}
+use Rattle.coherence.specs.Keeping.{Codes, Request, reply_to, run_for, key, Operation, Operation.translates, Operation.writes}
 use Rattle.coherence.specs.Keeping.{Operation.empties, inserted}
 use Rattle.coherence.proofs.Along.{left_by, keeps_spans_of, found_may_be_entered_of, reached}
-use Rattle.capi.specs.Replies.{padded, Replies}
-use Rattle.capi.specs.Indexes.{told, RepliesToInsert}
+use Rattle.capi.specs.Replies.{padded}
+use Rattle.capi.specs.Indexes.{told}
 use Rattle.capi.specs.KeepingInC.{Calls, native_of, Does, Finds, KeepsSpansInC, FoundMayBeEnteredInC, CallsCanBeMade}
 use Rattle.capi.specs.declared.Reply.{Reply}
 

@@ -1,5 +1,5 @@
 -- What the contracts of a held index say of its parts: the first n entries change as the index's own function says, and nothing else does.
-use Rattle.std.proofs.Common.{◌≡◌, refl, List, drop}
+use Rattle.std.proofs.Common.{◌≡◌, drop}
 use Rattle.entry.specs.Index.{empty}
 use Rattle.table.specs.Held.{entries_of, AtFront}
 use Rattle.table.specs.declared.Table.{Table}
