@@ -36,3 +36,5 @@ pub mod HelperList
 pub mod KeptList
 pub mod Greatest
 pub mod Elsewhere
+pub mod Logged
+pub mod Spelled

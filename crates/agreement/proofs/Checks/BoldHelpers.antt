@@ -8,7 +8,7 @@ use Rattle.agreement.specs.X86.Form.{R12, R13, R14, R15, RAX, RBP, RBX, RDX, RSP
 use Rattle.agreement.specs.X86.Memory.{Memory, at, read}
 use Rattle.agreement.specs.X86.State.{State}
 use Rattle.agreement.proofs.Checks.Example.{clear, range}
-use Rattle.agreement.proofs.Checks.Sites.{Site, range_in, turn_at}
+use Rattle.agreement.proofs.Checks.Sites.{Site, all_but_zf, range_in, turn_at}
 use Rattle.agreement.proofs.Theorem.OneTurn.{or_left, or_right}
 
 -- the bytes of the frame and of the block as before, in numbers that are 256 more; slot x0 zero; all others 255
@@ -23,7 +23,7 @@ unfoldable pub bold : Site → ℕ → State → State
 bold s rax u = record {
   regs = λ k.
       cond (eqb k RSP) (at (u.regs RSP) 8) (cond (eqb k RAX) rax (cond (eqb k RDX) (2 ^ 64 - 1) (cond (is_kept k) (u.regs k) (2 ^ 64))));
-  flags = clear;
+  flags = all_but_zf;
   rip = read 8 u.mem (u.regs RSP);
   mem = overrun s u.mem;
 }

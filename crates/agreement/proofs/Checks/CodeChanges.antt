@@ -1,5 +1,6 @@
 -- The guest's code changes between turns: it stores new code, issues FENCE.I and enters what it stored. The theorem is applied.
-use Rattle.std.proofs.Common.{false, List, [], ◌∷◌, ◌∙◌, ◌≡◌, refl, ◌*◌, ◌+◌, arith}
+use Rattle.std.proofs.Common.{false, List, [], ◌∷◌, ◌∙◌, ◌≡◌, refl, ◌*◌, ◌+◌, ℕ, arith}
+use Rattle.std.specs.Prelude.{Option, None, Some}
 use Rattle.agreement.specs.Common.{Helper.for_access}
 use Rattle.agreement.specs.Riscv.Code.{Code, run_at}
 use Rattle.agreement.specs.Riscv.Instruction.{value_op_imm}
@@ -23,8 +24,13 @@ use Rattle.agreement.proofs.Theorem.AlongTheRun.{Ends, MeetsAt, Met, ends_helped
 abbrev old_code : Code
 old_code = held 0x80000000 (words (0x0021A023 ∷ 0x0000100F ∷ 0x00500093 ∷ 0xFF5FF06F ∷ []))
 
+-- elsewhere, odd addresses among it, there is code too
+abbrev or_ones : Option ℕ → Option ℕ
+or_ones None = Some 0xFFFF
+or_ones (Some h) = Some h
+
 abbrev pub new_code : Code
-new_code = held 0x80000000 (words (0x0021A023 ∷ 0x0000100F ∷ 0x00700093 ∷ 0xFF5FF06F ∷ []))
+new_code x = or_ones (held 0x80000000 (words (0x0021A023 ∷ 0x0000100F ∷ 0x00700093 ∷ 0xFF5FF06F ∷ [])) x)
 
 -- ADDI x1, x0, 5 and JAL, the code as it was; entered first
 abbrev pub old_turn : Turn

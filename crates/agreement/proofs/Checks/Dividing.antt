@@ -45,7 +45,7 @@ dividing =
     applied 0x80000010 (dividing_turn ∷ []) (omega arith)
     (met_plain d0 dividing_turn [] dividing_meets dividing_plain.taken dividing_plain.stops (unfold Met in tt))
 
-instructions : length (instrs 0x1111 0x2222 (walked 0x80000010 64 dividing_run)) ≡ 37
+instructions : length (instrs 0x2222 0x1111 (walked 0x80000010 64 dividing_run)) ≡ 37
 unfolding translations immediates words
 instructions = refl
 

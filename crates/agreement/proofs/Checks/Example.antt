@@ -1,7 +1,8 @@
 -- A list of turns that meets every premise: the theorem is applied to it, so that its premises are seen to be met.
 -- Registers at 0x10000, block at 0x20000; three entry stack pointers, two of which differ modulo 32, and one as high as can
--- be. The block may only be fetched from, the registers and the stack only read and written, and nothing else may be touched.
-use Rattle.std.proofs.Common.{Bool, false, ◌&&◌, ◌||◌, List, [], ◌∷◌, ℕ, ◌+◌, ◌-◌, ◌*◌, ◌%◌, length, replicate, leb, ltb}
+-- be. All memory may be fetched from and read, and written but at address 0. (Checks/Sites has the other extreme: nothing else may be
+-- touched.)
+use Rattle.std.proofs.Common.{Bool, false, true, not, eqb, ◌&&◌, List, [], ◌∷◌, ℕ, ◌+◌, ◌*◌, ◌%◌, length, replicate, leb, ltb}
 use Rattle.std.specs.Prelude.{None}
 use Rattle.agreement.specs.Riscv.Code.{Code}
 use Rattle.agreement.specs.X86.Memory.{at, read, write}
@@ -15,13 +16,8 @@ use Rattle.agreement.proofs.Laws.Runs.{held}
 unfoldable pub range : ℕ → ℕ → ℕ → Bool
 range a n x = leb a x && ltb x (a + n)
 
--- with the stack from 64 below sp to 8 above it
-abbrev pub permissions : ℕ → Permissions
-permissions sp = record {
-  fetch = range 0x20000 4099;
-  read = λ x. range 0x10000 256 x || range (sp - 64) 72 x;
-  write = λ x. range 0x10000 256 x || range (sp - 64) 72 x;
-}
+abbrev pub permissions : Permissions
+permissions = record { fetch = λ x. true; read = λ x. true; write = λ x. not (eqb x 0) }
 
 -- a helper that sets slot r to v and slot x0 to 0, and returns with RAX and RDX as given
 unfoldable pub leaves : ℕ → ℕ → ℕ → ℕ → State → State
@@ -42,8 +38,8 @@ turn_of sp code hs helper = record {
   made = hs;
   code = code;
   reach = length hs;
-  helper16 = 0x1111;
-  helper_mem = 0x2222;
+  helper16 = 0x2222;
+  helper_mem = 0x1111;
   output = replicate 4099 0;
   block = 0x20000;
   base = 0x10000;
@@ -51,7 +47,7 @@ turn_of sp code hs helper = record {
   others = λ k. 100 + k;
   flags = clear;
   rest = λ a. a % 256;
-  ok = permissions sp;
+  ok = permissions;
   undefined = λ s. clear;
   helper = helper;
 }

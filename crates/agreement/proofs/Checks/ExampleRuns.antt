@@ -19,7 +19,7 @@ use Rattle.agreement.proofs.Checks.CasesHold.{immediates, translations}
 use Rattle.agreement.proofs.Checks.Example.{leaves, plain_turn, range, zeros}
 
 abbrev code_of_run : List ℕ → List ℕ
-code_of_run hs = bytes (instrs 0x1111 0x2222 (walked 0x80000010 64 hs))
+code_of_run hs = bytes (instrs 0x2222 0x1111 (walked 0x80000010 64 hs))
 
 abbrev code_of : List ℕ → List ℕ
 code_of ws = code_of_run (words ws)

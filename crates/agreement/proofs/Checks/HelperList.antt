@@ -194,6 +194,7 @@ pub record HalfSays (n : ℕ) (v : Visit) (c : Call) : Type 0 where
   pub rsp : v.exit.regs RSP ≡ 2 ^ 64 - 256
   pub rax' : v.exit.regs RAX ≡ 2 ^ 64 - 1
   pub rdx' : v.exit.regs RDX ≡ 2 ^ 64 - 1
+  pub in_front : v.exit.mem (2 ^ 64 - 417) ≡ 255
   pub count : n ≡ 1
 
 n1_high : (a : State) → High (n1 a).registers
@@ -215,6 +216,7 @@ half_says {e = e} a w =
       r8 = k.r8;
       rcx = k.rcx ∙ i;
       target = k.target ∙ target_is k.h half_turn refl refl;
+      in_front = k.rest' (2 ^ 64 - 417) ∙ rw b (unfold overrun range in refl);
       rsp = w.was.returns.rsp;
       rax' = k.rax' ∙ rw b refl;
       rdx' = k.rdx' ∙ rw b refl;

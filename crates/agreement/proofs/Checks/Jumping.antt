@@ -48,13 +48,13 @@ pub record Jumps (s : Site) : Type 0 where
   pub fit : Fits s
   pub size : s.size ≡ 67
   pub limit : s.limit ≢ 0
-  pub room : ltb (length {A = ℕ} (replicate s.room 0)) 4099 ≡ false
+  pub room : ltb (length {A = ℕ} (replicate s.room 1)) 4099 ≡ false
 
 not_zero : (n : ℕ) → not (eqb n 0) ≡ true → n ≢ 0
 not_zero n h e = let z : not (eqb 0 0) ≡ true = rw e at h in let o : ◌≡◌ {A = ℕ} 0 1 = cc in omega arith
 
-large : (n : ℕ) → 4099 ≤ n → ltb (length {A = ℕ} (replicate n 0)) 4099 ≡ false
-large n h = rw (length-replicate {A = ℕ} n 0) (leb_no (suc n) 4099 (omega (arith, h)))
+large : (n : ℕ) → 4099 ≤ n → ltb (length {A = ℕ} (replicate n 1)) 4099 ≡ false
+large n h = rw (length-replicate {A = ℕ} n 1) (leb_no (suc n) 4099 (omega (arith, h)))
 
 pub jumps_lem : (s : Site) → jumps_at s ≡ true → Jumps s
 unfolding jumps_at
@@ -69,7 +69,7 @@ jumps_lem s h =
 pub some_limit : (n : ℕ) → n ≢ 0 → min n 64 ≡ suc (min n 64 - 1)
 some_limit n h = omega (arith, h)
 
-reads_once : (k : ℕ) (x : Registers) → reading (suc k) jump_pc (run_at jump_code jump_pc 3) x ≡ jump x jump_pc
+reads_once : (k : ℕ) (x : Registers) → reading (suc k) jump_pc (run_at jump_code jump_pc 11) x ≡ jump x jump_pc
 unfolding reads_a_turn Manual.sign_extend write_x
 reads_once k x = refl
 

@@ -41,7 +41,7 @@ abbrev pub kept_mem : Kept
 kept_mem = record { turn = mem_turn; now = held jump_pc (mem_run ++ behind); reach = 4 }
 
 abbrev pub kept_half : Kept
-kept_half = record { turn = half_turn; now = held jump_pc (half_run ++ behind); reach = 1 }
+kept_half = record { turn = half_turn; now = held jump_pc half_run; reach = 1 }
 
 abbrev pub kept_last : Kept
 kept_last = record { turn = last_turn; now = λ x. None; reach = 1 }
@@ -122,7 +122,7 @@ half_span b e = sym (ap span_of e) ∙ computed
     computed : span_of (reply half_turn jump_pc) ≡ 2
     computed = unfold translations in refl
 
-half_same : SameIn jump_pc 2 half_code (held jump_pc (half_run ++ behind))
+half_same : SameIn jump_pc 2 half_code (held jump_pc half_run)
 unfolding words
 half_same zero h = refl
 half_same (suc k) h = absurd (omega (arith, h))

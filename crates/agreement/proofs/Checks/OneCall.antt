@@ -14,6 +14,7 @@ use Rattle.agreement.specs.Statement.Premises.{Enterable, Keeps}
 use Rattle.agreement.specs.X86.Form.{Instr.call_rax, Instr.ret, RAX, RDX, RSP}
 use Rattle.agreement.specs.X86.Memory.{at, read, write}
 use Rattle.agreement.specs.X86.State.{State, set}
+use Rattle.agreement.proofs.Checks.Example.{clear}
 use Rattle.agreement.proofs.Checks.Sites.{Fits, Site, laid_out, turn_at, fetched}
 use Rattle.agreement.proofs.Host.Memory.{read-write, write_out}
 use Rattle.agreement.proofs.Theorem.Agreement.{x0_at_start}
@@ -25,7 +26,7 @@ use Rattle.agreement.proofs.Theorem.TurnByTurn.{Led, led}
 abbrev pub tidy : Site → State → State
 tidy s u = record {
   regs = set (set (set u.regs RSP (at (u.regs RSP) 8)) RAX 0) RDX 0;
-  flags = u.flags;
+  flags = clear;
   rip = read 8 u.mem (u.regs RSP);
   mem = write 8 u.mem s.base 0;
 }

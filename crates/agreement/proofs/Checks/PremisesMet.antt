@@ -1,5 +1,5 @@
 -- The premises are met by two concrete lists of turns, and the theorem is applied to them.
-use Rattle.std.proofs.Common.{◌||◌, true, List, [], ◌∷◌, ◌≢◌, ◌∙◌, ◌≡◌, ap, refl, ◌%◌, ◌*◌, ◌+◌, ◌-◌, ◌<◌, ◌^◌, ◌≤◌, ℕ, arith, length}
+use Rattle.std.proofs.Common.{List, [], ◌∷◌, ◌≢◌, ◌∙◌, ◌≡◌, ap, refl, ◌%◌, ◌*◌, ◌+◌, ◌-◌, ◌<◌, ◌^◌, ◌≤◌, ℕ, arith, length}
 use Rattle.agreement.specs.Common.{Helper.for_access, Helper.for_halfword}
 use Rattle.agreement.specs.Laws.{Lengths}
 use Rattle.agreement.specs.Riscv.Code.{Code, run_at}
@@ -11,27 +11,17 @@ use Rattle.agreement.specs.X86.Memory.{Memory, read, write}
 use Rattle.agreement.specs.X86.State.{State}
 use Rattle.agreement.specs.Cases.{words}
 use Rattle.agreement.proofs.Checks.Example.{first_pc, five_turns, halfword_turn, helper_run, helper_turn, leaves, odd_turn, plain_run}
-use Rattle.agreement.proofs.Checks.Example.{plain_turn, range, refused_turn, three_turns, turn_of, zeros}
+use Rattle.agreement.proofs.Checks.Example.{plain_turn, refused_turn, three_turns, turn_of, zeros}
 use Rattle.agreement.proofs.Checks.ExampleStates.{after_three, fifth_refused, first_refused_lem, fourth_calls, fourth_taken, m0, m2, m3}
 use Rattle.agreement.proofs.Checks.ExampleStates.{second_calls, second_taken, third_plain, third_taken}
+use Rattle.agreement.proofs.Laws.Tests.{eqb_no}
 use Rattle.agreement.proofs.Host.Memory.{read-write, write_out}
 use Rattle.agreement.proofs.Block.Length.{lengths}
 use Rattle.agreement.proofs.Theorem.Agreement.{agreement}
 use Rattle.agreement.proofs.Theorem.Consequences.{after_helper}
-use Rattle.agreement.proofs.Theorem.OneTurn.{between, or_left, or_right}
 use Rattle.agreement.proofs.Theorem.AlongTheRun.{MeetsAt, Met, met, met_helped, met_plain, met_refused}
 
 -- 1. The layout and the helpers keep document 01's premises
-
-range_in : (a n i : ℕ) → i < n → range a n (a + i) ≡ true
-unfolding range
-range_in a n i l = between a (a + n) (a + i) (omega arith) (omega arith)
-
-base_may : (p i : ℕ) → i < 256 → range 0x10000 256 (0x10000 + i) || range p 72 (0x10000 + i) ≡ true
-base_may p i l = or_left (range 0x10000 256 (0x10000 + i)) (range p 72 (0x10000 + i)) (range_in 0x10000 256 i l)
-
-stack_may : (p i : ℕ) → i < 72 → range 0x10000 256 (p + i) || range p 72 (p + i) ≡ true
-stack_may p i l = or_right (range 0x10000 256 (p + i)) (range p 72 (p + i)) (range_in p 72 i l)
 
 -- a stack pointer that the example's layout allows
 pub record Allowed (sp : ℕ) : Type 0 where
@@ -48,11 +38,11 @@ laid_out sp g hs h k s l = record {
   block_base_apart = λ i j a b. omega arith;
   block_stack_apart = λ i j a b. omega (arith, s.above);
   base_stack_apart = λ i j a b. omega (arith, s.above);
-  block_fetch = λ i a. range_in 0x20000 4099 i (omega arith);
-  base_read = base_may (sp - 64);
-  base_write = base_may (sp - 64);
-  stack_read = stack_may (sp - 64);
-  stack_write = stack_may (sp - 64);
+  block_fetch = λ i a. refl;
+  base_read = λ i a. refl;
+  base_write = λ i a. rw (eqb_no (0x10000 + i) 0 (λ e. omega (arith, e))) refl;
+  stack_read = λ i a. refl;
+  stack_write = λ i a. rw (eqb_no (sp - 64 + i) 0 (λ e. omega (arith, e, s.above))) refl;
   aligned = omega (arith, s.aligned);
 }
 

@@ -45,7 +45,7 @@ turn_with limit hs code room = record {
   others = λ k. 100 + k;
   flags = clear;
   rest = λ a. a % 256;
-  ok = permissions 0x30008;
+  ok = permissions;
   undefined = λ s. clear;
   helper = λ s. s;
 }

@@ -1,6 +1,6 @@
 -- Turns whose block, register bytes and stack stand wherever the premises let them: what a site must fit, by one Boolean test, and that a
 -- turn at such a site is laid out. Only the bytes of the three may be touched, and the numbers of a turn are the greatest of their types.
-use Rattle.std.proofs.Common.{Bool, false, true, ◌&&◌, ◌||◌, List, ◌≡◌, refl, ℕ, ◌+◌, ◌-◌, ◌%◌, ◌^◌, ◌≤◌, ◌<◌, arith}
+use Rattle.std.proofs.Common.{Bool, false, not, true, ◌&&◌, ◌||◌, List, ◌≡◌, refl, ℕ, ◌+◌, ◌-◌, ◌%◌, ◌^◌, ◌≤◌, ◌<◌, arith}
 use Rattle.std.proofs.Common.{eqb, leb, length, replicate}
 use Rattle.agreement.specs.Riscv.Code.{Code}
 use Rattle.agreement.specs.Statement.Machine.{Turn}
@@ -20,18 +20,20 @@ pub record Site : Type 0 where
   pub base : ℕ
   pub sp : ℕ
 
-abbrev pub set_all : Flags
-set_all = record { cf = true; pf = true; af = true; zf = true; sf = true; of = true }
+abbrev pub all_but_zf : Flags
+all_but_zf = record { cf = true; pf = true; af = true; zf = false; sf = true; of = true }
 
 -- which addresses may be read and written: the register bytes, and the stack from 64 below sp to 8 above it
 unfoldable pub usable : ℕ → ℕ → ℕ → Bool
 usable base sp x = range base 256 x || range (sp - 64) 72 x
 
--- one halfword more than the run has was asked for, and not there
+-- nine halfwords more than the run has were asked for, and are not there
 abbrev pub fetched : List ℕ → ℕ
-fetched hs = length hs + 1
+fetched hs = length hs + 9
 
--- the sixteen registers at entry are 2^64 - 16 to 2^64 - 1, all flags are set, and no byte of memory is in a number below 2^64
+-- the sixteen registers at entry are 2^64 - 1, all flags but ZF are set, a flag that is left undefined becomes what it was not, no byte of
+-- memory is
+-- in a number below 2^64, and the lent output is not of zeros
 abbrev pub turn_at : Site → Code → List ℕ → (State → State) → Turn
 turn_at s code hs helper = record {
   limit = s.limit;
@@ -40,15 +42,22 @@ turn_at s code hs helper = record {
   reach = fetched hs;
   helper16 = 2 ^ 64 - 1;
   helper_mem = 2 ^ 64 - 1;
-  output = replicate s.room 0;
+  output = replicate s.room 1;
   block = s.block;
   base = s.base;
   sp = s.sp;
-  others = λ k. 2 ^ 64 - 16 + k;
-  flags = set_all;
-  rest = λ a. 2 ^ 64 + a;
+  others = λ k. 2 ^ 64 - 1;
+  flags = all_but_zf;
+  rest = λ a. 2 ^ 64 + 1 + a;
   ok = record { fetch = range s.block s.size; read = usable s.base s.sp; write = usable s.base s.sp };
-  undefined = λ u. u.flags;
+  undefined = λ u. record {
+    cf = not u.flags.cf;
+    pf = not u.flags.pf;
+    af = not u.flags.af;
+    zf = not u.flags.zf;
+    sf = not u.flags.sf;
+    of = not u.flags.of;
+  };
   helper = helper;
 }
 

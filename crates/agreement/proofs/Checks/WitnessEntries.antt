@@ -2,7 +2,7 @@
 use Rattle.std.proofs.Common.{Bool, false, not, true, List, [], ◌∷◌, ◌∙◌, ◌≡◌, ap, refl, sym, ◌%◌, ◌+◌, ◌-◌, ◌≤◌, ℕ, arith, eqb, length}
 use Rattle.agreement.specs.Common.{Helper, Helper.for_access, Helper.for_halfword}
 use Rattle.agreement.specs.Riscv.Code.{Code, run_at}
-use Rattle.agreement.specs.Riscv.Run.{GuestState, Stop.called, help}
+use Rattle.agreement.specs.Riscv.Run.{GuestState, Stop.called, help, write_x}
 use Rattle.agreement.specs.Statement.Agreement.{Helped, is_refused, own}
 use Rattle.agreement.specs.Statement.Machine.{Call, Event, RegisterBytes, Visit, enter}
 use Rattle.agreement.specs.Statement.Steps.{undivided, unless_dividing}
@@ -84,7 +84,7 @@ pub record Numbers (sp a : ℕ) (g : Code) (hs : List ℕ) (h : State → State)
   pub pad_end : own (turn_of sp g hs h) (sp - 49) ≡ false
 
 entry_says : (sp a n : ℕ) (g : Code) (hs : List ℕ) (h : State → State) (m : GuestState) (e : Event) (w : WasEntered m (turn_of sp g hs h) e)
-    → Numbers sp a g hs h → length (instrs 0x1111 0x2222 (walked m.pc 64 hs)) ≡ n → Undivided m.pc g hs → EntrySays sp a n w.v
+    → Numbers sp a g hs h → length (instrs 0x2222 0x1111 (walked m.pc 64 hs)) ≡ n → Undivided m.pc g hs → EntrySays sp a n w.v
 entry_says sp a n g hs h m e w k s d = record {
   x0_entry = w.returns.entry_x0;
   x0_exit = w.returns.exit_x0;
@@ -116,6 +116,7 @@ pub record HelperSays (pc n : ℕ) (v : Visit) (c : Call) : Type 0 where
   pub entry_pc : pc ≡ 0xFFFFFFFFFFFFFFF8
   pub entry_x1 : read 8 v.entry.mem 0x10008 ≡ 0
   -- just before the call
+  pub x0_before : read 8 c.before.mem 0x10000 ≡ 0
   pub x1 : read 8 c.before.mem 0x10008 ≡ 5
   pub r8 : c.before.regs R8 ≡ 0xFFFFFFFFFFFFFFFC
   pub rcx : c.before.regs RCX ≡ 0x0000B083
@@ -125,7 +126,7 @@ pub record HelperSays (pc n : ℕ) (v : Visit) (c : Call) : Type 0 where
   pub rsp : c.before.regs RSP ≡ 0x2FFD0
   pub aligned : c.before.regs RSP % 16 ≡ 0
   -- at the helper's first instruction
-  pub target : c.inside.rip ≡ 0x2222
+  pub target : c.inside.rip ≡ 0x1111
   pub x1_inside : read 8 c.inside.mem 0x10008 ≡ 5
   pub x0_byte : c.inside.mem 0x10000 ≡ v.entry.mem 0x10000
   pub pad : c.inside.mem 0x2FFD0 ≡ v.entry.mem 0x2FFD0
@@ -150,7 +151,7 @@ helper_numbers = record {
   pad_end = refl;
 }
 
-helper_instructions : length (instrs 0x1111 0x2222 (walked m0.pc 64 helper_turn.made)) ≡ 32
+helper_instructions : length (instrs 0x2222 0x1111 (walked m0.pc 64 helper_turn.made)) ≡ 32
 unfolding translations immediates words
 helper_instructions = refl
 
@@ -168,6 +169,7 @@ helper_says w =
       accepted = w.was.returns.accepted;
       entry_pc = w.was.returns.entry_pc;
       entry_x1 = w.was.returns.entry_slots 1 (omega arith) ∙ (unfold read in refl);
+      x0_before = k.slots 0 (omega arith) ∙ (unfold write_x read in refl);
       x1 = k.slots 1 (omega arith) ∙ second_x1;
       r8 = k.r8;
       rcx = k.rcx ∙ j.1;
@@ -211,7 +213,7 @@ plain_numbers = record {
   pad_end = refl;
 }
 
-plain_instructions : (a : State) → length (instrs 0x1111 0x2222 (walked (m2 a).pc 64 plain_turn.made)) ≡ 32
+plain_instructions : (a : State) → length (instrs 0x2222 0x1111 (walked (m2 a).pc 64 plain_turn.made)) ≡ 32
 unfolding translations immediates words leaves
 plain_instructions a = refl
 
@@ -246,7 +248,7 @@ pub record HalfwordSays (n : ℕ) (v : Visit) (c : Call) : Type 0 where
   pub rcx : c.before.regs RCX ≡ 0x4108
   pub rsp : c.before.regs RSP ≡ 0xFFFFFFFFFFFFFFC0
   pub aligned : c.before.regs RSP % 16 ≡ 0
-  pub target : c.inside.rip ≡ 0x1111
+  pub target : c.inside.rip ≡ 0x2222
   pub rdx' : v.exit.regs RDX ≡ 1
   pub count : n ≡ 1
 
@@ -260,7 +262,7 @@ halfword_numbers = record {
   pad_end = refl;
 }
 
-halfword_instructions : (m : GuestState) → length (instrs 0x1111 0x2222 (walked m.pc 64 halfword_turn.made)) ≡ 28
+halfword_instructions : (m : GuestState) → length (instrs 0x2222 0x1111 (walked m.pc 64 halfword_turn.made)) ≡ 28
 unfolding translations immediates words
 halfword_instructions m = refl
 

@@ -341,7 +341,7 @@ step_unlogged undefined ok P s t ws x st h e =
     let r = step_inv undefined ok s t ws st in
     rw r.state (unwritten undefined P r.f.instr s x r.f.size (rw r.log at h) e)
 
-all_left : (P : ℕ → Bool) (xs ys : List ℕ) → all P (xs ++ ys) ≡ true → all P xs ≡ true
+pub all_left : (P : ℕ → Bool) (xs ys : List ℕ) → all P (xs ++ ys) ≡ true → all P xs ≡ true
 unfolding all
 all_left P [] ys h = refl
 all_left P (x ∷ xs) ys h = go (P x) (all_left P xs ys) h
@@ -352,7 +352,7 @@ all_left P (x ∷ xs) ys h = go (P x) (all_left P xs ys) h
     go true f e = f e
     go false f e = e
 
-all_right : (P : ℕ → Bool) (xs ys : List ℕ) → all P (xs ++ ys) ≡ true → all P ys ≡ true
+pub all_right : (P : ℕ → Bool) (xs ys : List ℕ) → all P (xs ++ ys) ≡ true → all P ys ≡ true
 unfolding all
 all_right P [] ys h = h
 all_right P (x ∷ xs) ys h = go (P x) (all_right P xs ys) h

@@ -169,3 +169,8 @@ unsigned_0 = unsigned 0 (2 ^ 120) 1 (divide_unsigned 0 (2 ^ 120) 1 (λ e. omega 
 unsigned_100 : DividedU 100 7 (2 ^ 120)
 unfolding DivideUnsigned
 unsigned_100 = unsigned 100 7 (2 ^ 120) (divide_unsigned 100 7 (2 ^ 120) (λ e. omega (arith, e)))
+
+positive_by_negative : Divided 64 7 (2 ^ 64 - 2)
+unfolding DivideTowardZero overflows
+positive_by_negative =
+    divided 64 7 (2 ^ 64 - 2) (divide_toward_zero 63 7 (2 ^ 64 - 2) (omega arith) (omega arith) (λ e. omega (arith, e)) refl)

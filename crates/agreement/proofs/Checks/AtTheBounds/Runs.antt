@@ -99,3 +99,7 @@ longest_held =
 none_held : HeldAt 0 [] 0
 unfolding RunsHeld
 none_held = held_at 0 [] 0 refl (runs_held 0 [] (omega arith) (omega arith) (unfold Halfwords in tt))
+
+alike_twice_round : run_at one (2 ^ 64 - 1) (2 ^ 64 + 1) ≡ run_at (λ x. Some 0x4108) (2 ^ 64 - 1) (2 ^ 64 + 1)
+unfolding RunsAlike
+alike_twice_round = runs_alike one (λ x. Some 0x4108) (2 ^ 64 - 1) (2 ^ 64 + 1) (omega arith) (λ k l. refl)
