@@ -6,3 +6,4 @@ pub mod FirstWord
 pub mod ReplyLaws
 pub mod Witness
 pub mod KeptWitness
+pub mod Spelled

@@ -5,3 +5,4 @@ pub mod AppliedKept
 pub mod ReadInC
 mod TurnsWitness
 mod Calls
+pub mod Spelled

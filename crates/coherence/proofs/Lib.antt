@@ -5,3 +5,4 @@ pub mod KeptInCode
 pub mod Reached
 pub mod Example
 pub mod Applied
+pub mod Spelled

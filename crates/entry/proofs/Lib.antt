@@ -4,3 +4,4 @@ pub mod Touching
 pub mod Refusing
 pub mod Cases
 pub mod Applied
+pub mod Spelled

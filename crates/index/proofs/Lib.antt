@@ -3,3 +3,4 @@ pub mod InCode
 pub mod Slots
 pub mod Clearing
 pub mod Applied
+pub mod Spelled
