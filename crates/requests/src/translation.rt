@@ -15,26 +15,30 @@ pub struct Translation {
     pub count: usize,
 }
 
-// The fields behind the line's letter; the halfwords go to the front of the lent ones.
-#[tactic(auto, unfolding(crate::specs::Lines::asked_of))]
+// The fields behind the line's letter; the halfwords go to the front of the lent ones. They are read before limit and output are tested, so
+// that they stand there also where the line is refused for one of these alone.
+#[tactic(auto, unfolding(crate::specs::Lines::written_of, crate::specs::Lines::asked_of))]
 pub fn read_translation(line: &[u8], halfwords: &mut [u16]) -> Option<Translation>
     ensures asks { Asks (length halfwords.old) line.now halfwords.new result }
     ensures fits { IfSome result (λ t. t.output ≤ LENT) }
 {
     let mut fields = Fields { line, at: 2 };
     let start = fields.number(16)?;
-    let limit = fields.next_u32()?;
+    let limit = fields.next_number(10)?;
     let helper16 = fields.next_number(16)?;
     let helper_mem = fields.next_number(16)?;
-    let output = fields.next_at_most(LENT)? as usize;
+    let output = fields.next_number(10)?;
     fields.pass(b" ")?;
     let count = fields.halfwords(halfwords)?;
+    if output > LENT {
+        return None;
+    }
     Some(Translation {
         start,
-        limit,
+        limit: u32::try_from(limit).ok()?,
         helper16,
         helper_mem,
-        output,
+        output: output as usize,
         count,
     })
 }
