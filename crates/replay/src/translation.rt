@@ -70,18 +70,21 @@ fn answer<W: Write>(asked: Translation, halfwords: &[u16], out: &mut [u8], to: &
     }
 }
 
-// Writes the reply to a request, which is lent an output of the length that it asks for; there is none to a line that is no request.
+// Lends an output of the length that is asked for. A function of its own: in `reply` the compiled code cleared the array before it read the
+// line, and once more behind that.
+fn lend<W: Write>(asked: Translation, halfwords: &[u16], to: &mut Output<W>)
+    requires { asked.output ≤ 65536 }
+{
+    let mut out = [0u8; 65536];
+    answer(asked, halfwords, &mut out[..asked.output], to);
+}
+
+// Writes the reply to a request; there is none to a line that is no request.
 pub fn reply<W: Write>(line: &[u8], to: &mut Output<W>) -> Option<()>
     ensures { is_some result ≡ is_translation 2048 line.now }
 {
     let mut halfwords = [0u16; 2048];
     let asked = requests::read_translation(line, &mut halfwords)?;
-    let mut out = [0u8; 65536];
-    answer(
-        asked,
-        &halfwords[..asked.count],
-        &mut out[..asked.output],
-        to,
-    );
+    lend(asked, &halfwords[..asked.count], to);
     Some(())
 }
