@@ -5,14 +5,13 @@ use Rattle.agreement.specs.Translation.Emit.{opening}
 use Rattle.agreement.specs.Translation.Walk.{ending, instrs}
 use Rattle.agreement.specs.Translation.Walk as Translation
 use Rattle.agreement.specs.Translation.Replies.{block_of}
-use Rattle.emitter.specs.Written.{Writes}
-use Rattle.emitter.specs.declared.X64Emitter.{X64Emitter}
+use Rattle.emitter.specs.Written.{Emitter, Writes}
 use Rattle.words.proofs.Joined.{joined}
 use Rattle.walk.specs.Walks.{Walks, Closes, end_as}
 use Rattle.walk.specs.declared.run.Walked.{Walked}
 use Rattle.block.specs.Answers.{Compiles}
 
-pub compiled : {e f g h : X64Emitter} {w : Walked} {count : ℕ} {before : List ℕ} (helper16 helper_mem : ℕ) (p : Translation.Walked)
+pub compiled : {e f g h : Emitter} {w : Walked} {count : ℕ} {before : List ℕ} (helper16 helper_mem : ℕ) (p : Translation.Walked)
     → e.out.now ≡ before → e.at ≡ 0
     → Writes e (bytes opening) f → Walks f 0 0 p g w → Closes g helper16 helper_mem (end_as w.end) w.emitted h count
     → Compiles (block_of helper16 helper_mem p) before h.out.now (record { length = h.at; count = count; span = w.span })

@@ -27,14 +27,15 @@ pub use args::{Alu, MulDiv, Shift, Width, X64Cc};
 use forms::Form;
 pub use gpr::Gpr;
 
-// The output that is lent, and the place in it at which the next byte goes.
-#[derive(Drop)]
-pub struct X64Emitter<'a> {
-    pub out: &'a mut [u8],
+// The output, and the place in it at which the next byte goes. An emitter is copied where its output can be, as a place alone is
+// (`X64Emitter<()>`); one that writes holds a `&mut`, which can't.
+#[derive(Clone, Copy)]
+pub struct X64Emitter<O> {
+    pub out: O,
     pub at: usize,
 }
 
-impl<'a> X64Emitter<'a> {
+impl<'a> X64Emitter<&'a mut [u8]> {
     // The registers' names, as document 01 has them: constants of this type.
     pub const RAX: Gpr = Gpr::RAX;
 
@@ -68,7 +69,7 @@ impl<'a> X64Emitter<'a> {
 
     pub const R15: Gpr = Gpr::R15;
 
-    pub fn new(out: &'a mut [u8]) -> X64Emitter<'a>
+    pub fn new(out: &'a mut [u8]) -> X64Emitter<&'a mut [u8]>
         ensures same_output { result.out.ghost_name ≡ out.entry.ghost_name }
         ensures output { result.out.now ≡ out.old }
         ensures place { result.at ≡ 0 }

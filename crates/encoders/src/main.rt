@@ -10,7 +10,7 @@ use std::io;
 use std::io::Write;
 
 // PUSH, POP.
-fn pushes_and_pops(em: &mut X64Emitter<'_>)
+fn pushes_and_pops(em: &mut X64Emitter<&mut [u8]>)
     requires { HasRoom em.old 32 }
     ensures { Advances em.old 32 em.new }
 {
@@ -21,7 +21,7 @@ fn pushes_and_pops(em: &mut X64Emitter<'_>)
 }
 
 // MOV between registers, from an immediate, from and to memory.
-fn moves(em: &mut X64Emitter<'_>)
+fn moves(em: &mut X64Emitter<&mut [u8]>)
     requires { HasRoom em.old 32 }
     ensures { Advances em.old 32 em.new }
 {
@@ -32,7 +32,7 @@ fn moves(em: &mut X64Emitter<'_>)
 }
 
 // ADD of 64 and 32 bits, and of an immediate.
-fn additions(em: &mut X64Emitter<'_>)
+fn additions(em: &mut X64Emitter<&mut [u8]>)
     requires { HasRoom em.old 32 }
     ensures { Advances em.old 32 em.new }
 {
@@ -42,7 +42,7 @@ fn additions(em: &mut X64Emitter<'_>)
 }
 
 // SUB of 64 and 32 bits.
-fn subtractions(em: &mut X64Emitter<'_>)
+fn subtractions(em: &mut X64Emitter<&mut [u8]>)
     requires { HasRoom em.old 32 }
     ensures { Advances em.old 32 em.new }
 {
@@ -51,7 +51,7 @@ fn subtractions(em: &mut X64Emitter<'_>)
 }
 
 // AND, AND with an immediate, OR.
-fn ands_and_or(em: &mut X64Emitter<'_>)
+fn ands_and_or(em: &mut X64Emitter<&mut [u8]>)
     requires { HasRoom em.old 32 }
     ensures { Advances em.old 32 em.new }
 {
@@ -61,7 +61,7 @@ fn ands_and_or(em: &mut X64Emitter<'_>)
 }
 
 // XOR, XOR with an immediate.
-fn xors(em: &mut X64Emitter<'_>)
+fn xors(em: &mut X64Emitter<&mut [u8]>)
     requires { HasRoom em.old 32 }
     ensures { Advances em.old 32 em.new }
 {
@@ -70,7 +70,7 @@ fn xors(em: &mut X64Emitter<'_>)
 }
 
 // OR with an immediate of four bytes, AND with one of one byte.
-fn or_and_with_immediates(em: &mut X64Emitter<'_>)
+fn or_and_with_immediates(em: &mut X64Emitter<&mut [u8]>)
     requires { HasRoom em.old 32 }
     ensures { Advances em.old 32 em.new }
 {
@@ -79,7 +79,7 @@ fn or_and_with_immediates(em: &mut X64Emitter<'_>)
 }
 
 // CMP, CMP with an immediate.
-fn comparisons(em: &mut X64Emitter<'_>)
+fn comparisons(em: &mut X64Emitter<&mut [u8]>)
     requires { HasRoom em.old 32 }
     ensures { Advances em.old 32 em.new }
 {
@@ -88,7 +88,7 @@ fn comparisons(em: &mut X64Emitter<'_>)
 }
 
 // SHL, SHR, SAR of 64 bits by CL.
-fn shifts_64_by_cl(em: &mut X64Emitter<'_>)
+fn shifts_64_by_cl(em: &mut X64Emitter<&mut [u8]>)
     requires { HasRoom em.old 32 }
     ensures { Advances em.old 32 em.new }
 {
@@ -98,7 +98,7 @@ fn shifts_64_by_cl(em: &mut X64Emitter<'_>)
 }
 
 // SHL, SHR, SAR of 64 bits by a byte.
-fn shifts_64_by_imm8(em: &mut X64Emitter<'_>)
+fn shifts_64_by_imm8(em: &mut X64Emitter<&mut [u8]>)
     requires { HasRoom em.old 32 }
     ensures { Advances em.old 32 em.new }
 {
@@ -108,7 +108,7 @@ fn shifts_64_by_imm8(em: &mut X64Emitter<'_>)
 }
 
 // SHL, SHR, SAR of 32 bits by CL.
-fn shifts_32_by_cl(em: &mut X64Emitter<'_>)
+fn shifts_32_by_cl(em: &mut X64Emitter<&mut [u8]>)
     requires { HasRoom em.old 32 }
     ensures { Advances em.old 32 em.new }
 {
@@ -118,7 +118,7 @@ fn shifts_32_by_cl(em: &mut X64Emitter<'_>)
 }
 
 // SHL, SHR, SAR of 32 bits by a byte.
-fn shifts_32_by_imm8(em: &mut X64Emitter<'_>)
+fn shifts_32_by_imm8(em: &mut X64Emitter<&mut [u8]>)
     requires { HasRoom em.old 32 }
     ensures { Advances em.old 32 em.new }
 {
@@ -128,7 +128,7 @@ fn shifts_32_by_imm8(em: &mut X64Emitter<'_>)
 }
 
 // IMUL of 64 and 32 bits.
-fn products(em: &mut X64Emitter<'_>)
+fn products(em: &mut X64Emitter<&mut [u8]>)
     requires { HasRoom em.old 32 }
     ensures { Advances em.old 32 em.new }
 {
@@ -137,7 +137,7 @@ fn products(em: &mut X64Emitter<'_>)
 }
 
 // MOVSXD.
-fn sign_extension(em: &mut X64Emitter<'_>)
+fn sign_extension(em: &mut X64Emitter<&mut [u8]>)
     requires { HasRoom em.old 32 }
     ensures { Advances em.old 32 em.new }
 {
@@ -145,7 +145,7 @@ fn sign_extension(em: &mut X64Emitter<'_>)
 }
 
 // SETcc, MOVZX of its byte, CMOVcc.
-fn conditions(em: &mut X64Emitter<'_>)
+fn conditions(em: &mut X64Emitter<&mut [u8]>)
     requires { HasRoom em.old 32 }
     ensures { Advances em.old 32 em.new }
 {
@@ -155,7 +155,7 @@ fn conditions(em: &mut X64Emitter<'_>)
 }
 
 // SUB RSP, ADD RSP, CALL RAX, RET.
-fn stack_call_and_return(em: &mut X64Emitter<'_>)
+fn stack_call_and_return(em: &mut X64Emitter<&mut [u8]>)
     requires { HasRoom em.old 32 }
     ensures { Advances em.old 32 em.new }
 {
@@ -166,7 +166,7 @@ fn stack_call_and_return(em: &mut X64Emitter<'_>)
 }
 
 // MUL and IMUL of one operand.
-fn wide_products(em: &mut X64Emitter<'_>)
+fn wide_products(em: &mut X64Emitter<&mut [u8]>)
     requires { HasRoom em.old 32 }
     ensures { Advances em.old 32 em.new }
 {
@@ -175,7 +175,7 @@ fn wide_products(em: &mut X64Emitter<'_>)
 }
 
 // DIV and IDIV of 64 and 32 bits.
-fn quotients(em: &mut X64Emitter<'_>)
+fn quotients(em: &mut X64Emitter<&mut [u8]>)
     requires { HasRoom em.old 32 }
     ensures { Advances em.old 32 em.new }
 {
@@ -186,7 +186,7 @@ fn quotients(em: &mut X64Emitter<'_>)
 }
 
 // CQO, CDQ, AND and XOR of 32 bits.
-fn dividends(em: &mut X64Emitter<'_>)
+fn dividends(em: &mut X64Emitter<&mut [u8]>)
     requires { HasRoom em.old 32 }
     ensures { Advances em.old 32 em.new }
 {
@@ -197,7 +197,7 @@ fn dividends(em: &mut X64Emitter<'_>)
 }
 
 // ADD, OR and CMP with an immediate of one byte.
-fn small_immediates(em: &mut X64Emitter<'_>)
+fn small_immediates(em: &mut X64Emitter<&mut [u8]>)
     requires { HasRoom em.old 32 }
     ensures { Advances em.old 32 em.new }
 {
@@ -207,7 +207,7 @@ fn small_immediates(em: &mut X64Emitter<'_>)
 }
 
 // Jumps by CF and by ZF, over no byte and over as many as there can be among them.
-fn jumps_by_cf_and_zf(em: &mut X64Emitter<'_>)
+fn jumps_by_cf_and_zf(em: &mut X64Emitter<&mut [u8]>)
     requires { HasRoom em.old 32 }
     ensures { Advances em.old 32 em.new }
 {
@@ -218,7 +218,7 @@ fn jumps_by_cf_and_zf(em: &mut X64Emitter<'_>)
 }
 
 // Jumps by SF and OF.
-fn jumps_by_sign(em: &mut X64Emitter<'_>)
+fn jumps_by_sign(em: &mut X64Emitter<&mut [u8]>)
     requires { HasRoom em.old 32 }
     ensures { Advances em.old 32 em.new }
 {
@@ -227,7 +227,7 @@ fn jumps_by_sign(em: &mut X64Emitter<'_>)
 }
 
 // The forms in the order of the table: PUSH, POP, MOV, ADD, SUB.
-fn moves_and_sums(em: &mut X64Emitter<'_>)
+fn moves_and_sums(em: &mut X64Emitter<&mut [u8]>)
     requires { HasRoom em.old 128 }
     ensures { Advances em.old 128 em.new }
 {
@@ -238,7 +238,7 @@ fn moves_and_sums(em: &mut X64Emitter<'_>)
 }
 
 // AND, OR, XOR, CMP.
-fn logic_and_comparisons(em: &mut X64Emitter<'_>)
+fn logic_and_comparisons(em: &mut X64Emitter<&mut [u8]>)
     requires { HasRoom em.old 128 }
     ensures { Advances em.old 128 em.new }
 {
@@ -249,7 +249,7 @@ fn logic_and_comparisons(em: &mut X64Emitter<'_>)
 }
 
 // SHL, SHR, SAR.
-fn shifts(em: &mut X64Emitter<'_>)
+fn shifts(em: &mut X64Emitter<&mut [u8]>)
     requires { HasRoom em.old 128 }
     ensures { Advances em.old 128 em.new }
 {
@@ -260,7 +260,7 @@ fn shifts(em: &mut X64Emitter<'_>)
 }
 
 // IMUL, MOVSXD, SETcc, MOVZX, CMOVcc, then the forms of a block's frame and end.
-fn others(em: &mut X64Emitter<'_>)
+fn others(em: &mut X64Emitter<&mut [u8]>)
     requires { HasRoom em.old 128 }
     ensures { Advances em.old 128 em.new }
 {
@@ -271,7 +271,7 @@ fn others(em: &mut X64Emitter<'_>)
 }
 
 // The forms of document 02, Q-2: products and quotients of one operand, and what stands before a division.
-fn products_and_quotients(em: &mut X64Emitter<'_>)
+fn products_and_quotients(em: &mut X64Emitter<&mut [u8]>)
     requires { HasRoom em.old 128 }
     ensures { Advances em.old 128 em.new }
 {
@@ -282,7 +282,7 @@ fn products_and_quotients(em: &mut X64Emitter<'_>)
 }
 
 // Jumps.
-fn jumps(em: &mut X64Emitter<'_>)
+fn jumps(em: &mut X64Emitter<&mut [u8]>)
     requires { HasRoom em.old 128 }
     ensures { Advances em.old 128 em.new }
 {

@@ -16,7 +16,7 @@ use emitter::{Alu, Gpr, MulDiv, Shift, Width, X64Cc, X64Emitter};
 
 // MULH by IMUL, both signed; MULHU by MUL, both unsigned.
 #[inline(always)]
-pub fn mul_upper(em: &mut X64Emitter<'_>, op: MulDiv)
+pub fn mul_upper(em: &mut X64Emitter<&mut [u8]>, op: MulDiv)
     requires { HasRoom em.old 9 }
     ensures { Writes em.old (bytes (upper_half (mul_div_of op))) em.new }
 {
@@ -27,7 +27,7 @@ pub fn mul_upper(em: &mut X64Emitter<'_>, op: MulDiv)
 
 // MULHSU: R10 signed, R11 unsigned. The unsigned product's upper half, less R11 where R10 is negative.
 #[inline(always)]
-pub fn mulhsu(em: &mut X64Emitter<'_>)
+pub fn mulhsu(em: &mut X64Emitter<&mut [u8]>)
     requires { HasRoom em.old 17 }
     ensures { Writes em.old (bytes (body_op MULHSU)) em.new }
 {
@@ -40,7 +40,7 @@ pub fn mulhsu(em: &mut X64Emitter<'_>)
 
 // The division itself, eight bytes: quotient in RAX, remainder in RDX.
 #[inline(always)]
-fn div(em: &mut X64Emitter<'_>, w: Width)
+fn div(em: &mut X64Emitter<&mut [u8]>, w: Width)
     requires { HasRoom em.old 8 }
     ensures { Writes em.old (bytes (division_u (width_of w))) em.new }
 {
@@ -51,7 +51,7 @@ fn div(em: &mut X64Emitter<'_>, w: Width)
 
 // The same of signed numbers, eight bytes; of 32 bits seven.
 #[inline(always)]
-fn idiv(em: &mut X64Emitter<'_>, w: Width)
+fn idiv(em: &mut X64Emitter<&mut [u8]>, w: Width)
     requires { HasRoom em.old (length (bytes (division_s (width_of w)))) }
     ensures { Writes em.old (bytes (division_s (width_of w))) em.new }
 {
@@ -62,7 +62,7 @@ fn idiv(em: &mut X64Emitter<'_>, w: Width)
 
 // Unsigned: jumps over the division where R11 is 0. `res` is RAX or RDX.
 #[inline(always)]
-fn divide_u(em: &mut X64Emitter<'_>, w: Width, res: Gpr)
+fn divide_u(em: &mut X64Emitter<&mut [u8]>, w: Width, res: Gpr)
     requires { HasRoom em.old 16 }
     ensures { Writes em.old (bytes (divide_u (width_of w) res)) em.new }
 {
@@ -74,7 +74,7 @@ fn divide_u(em: &mut X64Emitter<'_>, w: Width, res: Gpr)
 
 // Signed: jumps over the division where RCX, which is R11 plus 1, is 0 or 1.
 #[inline(always)]
-fn divide_s(em: &mut X64Emitter<'_>, w: Width, res: Gpr)
+fn divide_s(em: &mut X64Emitter<&mut [u8]>, w: Width, res: Gpr)
     requires { HasRoom em.old (length (bytes (divide_s (width_of w) res))) }
     ensures { Writes em.old (bytes (divide_s (width_of w) res)) em.new }
 {
@@ -90,7 +90,7 @@ fn divide_s(em: &mut X64Emitter<'_>, w: Width, res: Gpr)
 
 // R11 plus 1 in RCX.
 #[inline(always)]
-fn divisor_plus_1(em: &mut X64Emitter<'_>)
+fn divisor_plus_1(em: &mut X64Emitter<&mut [u8]>)
     requires { HasRoom em.old 7 }
     ensures { Writes em.old (bytes divisor_plus1) em.new }
 {
@@ -100,7 +100,7 @@ fn divisor_plus_1(em: &mut X64Emitter<'_>)
 
 // The quotient where R11 is 0 or -1, in RAX: R10 * R11 - (R11 + 1).
 #[inline(always)]
-fn first_quotient(em: &mut X64Emitter<'_>)
+fn first_quotient(em: &mut X64Emitter<&mut [u8]>)
     requires { HasRoom em.old 17 }
     ensures { Writes em.old (bytes first_quotient) em.new }
 {
@@ -112,7 +112,7 @@ fn first_quotient(em: &mut X64Emitter<'_>)
 
 // The remainder where R11 is 0 or -1, in RDX: R10 * (R11 + 1).
 #[inline(always)]
-fn first_remainder(em: &mut X64Emitter<'_>)
+fn first_remainder(em: &mut X64Emitter<&mut [u8]>)
     requires { HasRoom em.old 14 }
     ensures { Writes em.old (bytes first_remainder) em.new }
 {
@@ -123,7 +123,7 @@ fn first_remainder(em: &mut X64Emitter<'_>)
 
 // Before a signed division of 32 bits the operands' low 32 bits, sign-extended.
 #[inline(always)]
-fn sign_extend_pair(em: &mut X64Emitter<'_>, w: Width)
+fn sign_extend_pair(em: &mut X64Emitter<&mut [u8]>, w: Width)
     requires { HasRoom em.old (length (bytes (extended (width_of w)))) }
     ensures { Writes em.old (bytes (extended (width_of w))) em.new }
 {
@@ -138,7 +138,7 @@ fn sign_extend_pair(em: &mut X64Emitter<'_>, w: Width)
 
 // DIV, and DIVW, whose result is still to be sign-extended; so are the other three of 32 bits.
 #[inline(always)]
-pub fn quotient_s(em: &mut X64Emitter<'_>, w: Width)
+pub fn quotient_s(em: &mut X64Emitter<&mut [u8]>, w: Width)
     requires { HasRoom em.old (length (bytes (extended (width_of w) ++ quotient_s (width_of w)))) }
     ensures { Writes em.old (bytes (extended (width_of w) ++ quotient_s (width_of w))) em.new }
 {
@@ -149,7 +149,7 @@ pub fn quotient_s(em: &mut X64Emitter<'_>, w: Width)
 
 // REM and REMW.
 #[inline(always)]
-pub fn remainder_s(em: &mut X64Emitter<'_>, w: Width)
+pub fn remainder_s(em: &mut X64Emitter<&mut [u8]>, w: Width)
     requires { HasRoom em.old (length (bytes (extended (width_of w) ++ remainder_s (width_of w)))) }
     ensures { Writes em.old (bytes (extended (width_of w) ++ remainder_s (width_of w))) em.new }
 {
@@ -160,7 +160,7 @@ pub fn remainder_s(em: &mut X64Emitter<'_>, w: Width)
 
 // DIVU and DIVUW: all ones where R11 is 0.
 #[inline(always)]
-pub fn quotient_u(em: &mut X64Emitter<'_>, w: Width)
+pub fn quotient_u(em: &mut X64Emitter<&mut [u8]>, w: Width)
     requires { HasRoom em.old 20 }
     ensures { Writes em.old (bytes (quotient_u (width_of w))) em.new }
 {
@@ -170,7 +170,7 @@ pub fn quotient_u(em: &mut X64Emitter<'_>, w: Width)
 
 // REMU and REMUW: R10 where R11 is 0.
 #[inline(always)]
-pub fn remainder_u(em: &mut X64Emitter<'_>, w: Width)
+pub fn remainder_u(em: &mut X64Emitter<&mut [u8]>, w: Width)
     requires { HasRoom em.old 19 }
     ensures { Writes em.old (bytes (remainder_u (width_of w))) em.new }
 {

@@ -5,8 +5,7 @@ use Rattle.agreement.specs.Common.{Helper.for_halfword}
 use Rattle.agreement.specs.Translation.Decode32.{wrapping_add}
 use Rattle.agreement.specs.Translation.Kind.{kind}
 use Rattle.agreement.specs.Translation.Walk.{walk, End.goes_on, End.jumped, End.calls}
-use Rattle.emitter.specs.Written.{HasRoom}
-use Rattle.emitter.specs.declared.X64Emitter.{X64Emitter}
+use Rattle.emitter.specs.Written.{Emitter, HasRoom}
 use Rattle.words.specs.Word.{Emits, word_as, end_at}
 use Rattle.words.specs.declared.X64EmitFlow.{X64EmitFlow}
 use Rattle.words.specs.declared.X64EmitFlow.TheVariants.{Continue, Terminate, StopBehind}
@@ -22,13 +21,13 @@ use Rattle.walk.proofs.WalkWritten.{Left, named, going, ending_word, stopping, s
 
 -- n instructions of the run hs are written, which have k halfwords; e₀ was the emitter before the first, e is it behind the last. Whatever
 -- completes the walk from there completes the whole.
-pub record Walking (steps start : ℕ) (hs : List ℕ) (e₀ e : X64Emitter) (pc n k : ℕ) : Type 0 where
+pub record Walking (steps start : ℕ) (hs : List ℕ) (e₀ e : Emitter) (pc n k : ℕ) : Type 0 where
   pub taken : n ≤ steps
   pub place : k ≤ 2 * n
   pub room : HasRoom e (63 * (steps - n) + 35)
-  pub rest : (f : X64Emitter) (r : Walked) → Walks e n k (walk (steps - n) pc (drop k hs)) f r → Walks e₀ 0 0 (walk steps start hs) f r
+  pub rest : (f : Emitter) (r : Walked) → Walks e n k (walk (steps - n) pc (drop k hs)) f r → Walks e₀ 0 0 (walk steps start hs) f r
 
-pub begins : (steps start : ℕ) (hs : List ℕ) (e : X64Emitter) → HasRoom e (63 * steps + 35) → Walking steps start hs e e start 0 0
+pub begins : (steps start : ℕ) (hs : List ℕ) (e : Emitter) → HasRoom e (63 * steps + 35) → Walking steps start hs e e start 0 0
 begins steps start hs e h = record {
   taken = omega arith;
   place = omega arith;
@@ -36,7 +35,7 @@ begins steps start hs e h = record {
   rest = λ f r w. named (ap (λ (n : ℕ). walk n start hs) (sym (sub-zero steps))) w;
 }
 
-module _ {steps start : ℕ} {hs : List ℕ} {e₀ e : X64Emitter} {pc n k : ℕ} where
+module _ {steps start : ℕ} {hs : List ℕ} {e₀ e : Emitter} {pc n k : ℕ} where
   -- nothing is written: the steps are used up, a halfword is missing, or a helper takes a halfword
   pub used_up : {r : Walked} → Walking steps start hs e₀ e pc n k → steps ≤ n → Left n k (goes_on pc) r
       → Walks e₀ 0 0 (walk steps start hs) e r
@@ -55,7 +54,7 @@ module _ {steps start : ℕ} {hs : List ℕ} {e₀ e : X64Emitter} {pc n k : ℕ
       w.rest e r (named (at_half (steps - n) pc (drop k hs) (λ z. omega (arith, h, z)) f t) (stopping_here q))
 
   -- an instruction of m halfwords is written
-  module _ {f : X64Emitter} {flow : Option X64EmitFlow} {g : Fetched} (i m : ℕ) (w : Walking steps start hs e₀ e pc n k) (h : n < steps)
+  module _ {f : Emitter} {flow : Option X64EmitFlow} {g : Fetched} (i m : ℕ) (w : Walking steps start hs e₀ e pc n k) (h : n < steps)
       (E : Emits e (word_as (kind i) (2 * m) pc i) f flow) (F : Ok g ≡ fetched (drop k hs)) (I : Ok (instr_of i m) ≡ to_translate g) where
     left : steps - n ≡ 0 → ⊥
     left z = omega (arith, h, z)

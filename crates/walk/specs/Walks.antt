@@ -5,8 +5,7 @@ use Rattle.agreement.specs.Common as Common
 use Rattle.agreement.specs.X86.Encode.{bytes}
 use Rattle.agreement.specs.Translation.Walk.{End.goes_on, End.jumped, End.calls, ending, counted}
 use Rattle.agreement.specs.Translation.Walk as Translation
-use Rattle.emitter.specs.declared.X64Emitter.{X64Emitter}
-use Rattle.emitter.specs.Written.{Writes}
+use Rattle.emitter.specs.Written.{Emitter, Writes}
 use Rattle.words.specs.Word.{end_size}
 use Rattle.walk.specs.declared.close.Helper.{Helper}
 use Rattle.walk.specs.declared.close.Helper.TheVariants.{Halfword, Access}
@@ -34,14 +33,14 @@ abbrev pub walked_of : ℕ → ℕ → End → Walked
 walked_of n k e = record { emitted = n; span = 2 * k + end_size (end_as e); end = e }
 
 -- the walk p, behind n earlier instructions of k halfwords, was written
-pub record Walks (old : X64Emitter) (n k : ℕ) (p : Translation.Walked) (new : X64Emitter) (r : Walked) : Type 0 where
+pub record Walks (old : Emitter) (n k : ℕ) (p : Translation.Walked) (new : Emitter) (r : Walked) : Type 0 where
   pub ends : end_as r.end ≡ p.end
   pub counts : r.emitted ≡ n + p.added
   pub spans : r.span ≡ 2 * k + p.span
   pub writes : Writes old (bytes p.code) new
 
 -- the end e, behind n instructions, was written, and the block has this count
-pub record Closes (old : X64Emitter) (helper16 helper_mem : ℕ) (e : Translation.End) (n : ℕ) (new : X64Emitter) (count : ℕ)
+pub record Closes (old : Emitter) (helper16 helper_mem : ℕ) (e : Translation.End) (n : ℕ) (new : Emitter) (count : ℕ)
     : Type 0 where
   pub counts : count ≡ counted e n
   pub writes : Writes old (bytes (ending helper16 helper_mem e n)) new

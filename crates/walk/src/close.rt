@@ -69,7 +69,7 @@ impl End {
 
 #[tactic(auto, unfolding(agreement::specs::Translation::Walk::ending))]
 #[inline(always)]
-fn close_jumped(em: &mut X64Emitter<'_>, emitted: u32)
+fn close_jumped(em: &mut X64Emitter<&mut [u8]>, emitted: u32)
     requires { HasRoom em.old 25 }
     ensures { Writes em.old (bytes (ending 0 0 jumped emitted)) em.new }
 {
@@ -79,7 +79,7 @@ fn close_jumped(em: &mut X64Emitter<'_>, emitted: u32)
 
 #[tactic(auto, unfolding(agreement::specs::Translation::Walk::ending))]
 #[inline(always)]
-fn close_at(em: &mut X64Emitter<'_>, pc: u64, emitted: u32)
+fn close_at(em: &mut X64Emitter<&mut [u8]>, pc: u64, emitted: u32)
     requires { HasRoom em.old 35 }
     ensures { Writes em.old (bytes (ending 0 0 (goes_on pc) emitted)) em.new }
 {
@@ -90,7 +90,7 @@ fn close_at(em: &mut X64Emitter<'_>, pc: u64, emitted: u32)
 // The last instructions, and the block's count. A helper end is an instruction of its own, and counts.
 #[tactic(auto, unfolding(agreement::specs::Translation::Walk::ending, agreement::specs::Translation::Walk::counted))]
 #[inline(always)]
-pub fn close(em: &mut X64Emitter<'_>, end: End, emitted: u32, helpers: Helpers) -> u32
+pub fn close(em: &mut X64Emitter<&mut [u8]>, end: End, emitted: u32, helpers: Helpers) -> u32
     requires { (emitted ≤ most_steps) × HasRoom em.old (most (end_as end)) }
     ensures { Closes em.old helpers.helper16 helpers.helper_mem (end_as end) emitted em.new result }
 {

@@ -53,7 +53,12 @@ fn end_by_kind(what: WordKind, instr: u32, pc: u64) -> End
 // The instructions of the run, from its first one at `start` on, `steps` of them at most. A word that is not emitted leaves its bytes and
 // counts nothing. FENCE.I is the block's last word and has not set RAX: it counts, and the block's end sets RAX to the word behind it.
 #[inline(always)]
-pub fn emit_words(em: &mut X64Emitter<'_>, halfwords: &[u16], start: u64, steps: u32) -> Walked
+pub fn emit_words(
+    em: &mut X64Emitter<&mut [u8]>,
+    halfwords: &[u16],
+    start: u64,
+    steps: u32,
+) -> Walked
     requires { (steps ≤ most_steps) × HasRoom em.old (63 * steps + 35) }
     ensures walks { Walks em.old 0 0 (walk steps start halfwords.now) em.new result }
     ensures emitted_le_most_steps { result.emitted ≤ most_steps }

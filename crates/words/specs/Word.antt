@@ -15,10 +15,9 @@ use Rattle.agreement.specs.Translation.Walk.{End, End.calls, ending, size_of}
 use Rattle.agreement.specs.Translation.Kind.{kind_number, kind_op, kind_op32, kind_op_imm, kind_op_imm32, kind_branch, kind_fence}
 use Rattle.agreement.specs.Riscv.Immediates as Manual
 use Rattle.decode.specs.declared.Decoded32.{Decoded32}
-use Rattle.emitter.specs.declared.X64Emitter.{X64Emitter}
 use Rattle.emitter.specs.declared.args.X64Cc.{X64Cc}
 use Rattle.emitter.specs.Args.{cc_of}
-use Rattle.emitter.specs.Written.{Writes}
+use Rattle.emitter.specs.Written.{Emitter, Writes}
 use Rattle.words.specs.declared.X64EmitFlow.{X64EmitFlow}
 use Rattle.words.specs.declared.X64EmitFlow.TheVariants.{Continue, Terminate, StopBehind}
 
@@ -41,7 +40,7 @@ abbrev pub not_emitted : List Instr → Word
 not_emitted is = record { flow = None; code = is }
 
 -- the emitter wrote the word, and answers how the block goes on
-pub record Emits (old : X64Emitter) (w : Word) (new : X64Emitter) (r : Option X64EmitFlow) : Type 0 where
+pub record Emits (old : Emitter) (w : Word) (new : Emitter) (r : Option X64EmitFlow) : Type 0 where
   pub flows : r ≡ w.flow
   pub writes : Writes old (bytes w.code) new
 

@@ -10,7 +10,7 @@ use emitter::{Alu, X64Emitter};
 
 // The callee-saved registers.
 #[inline(always)]
-fn x64_emit_pushes(em: &mut X64Emitter<'_>)
+fn x64_emit_pushes(em: &mut X64Emitter<&mut [u8]>)
     requires { HasRoom em.old 10 }
     ensures { Writes em.old (bytes pushes) em.new }
 {
@@ -24,7 +24,7 @@ fn x64_emit_pushes(em: &mut X64Emitter<'_>)
 
 // The block's arguments in callee-saved registers.
 #[inline(always)]
-fn x64_emit_keeps(em: &mut X64Emitter<'_>)
+fn x64_emit_keeps(em: &mut X64Emitter<&mut [u8]>)
     requires { HasRoom em.old 18 }
     ensures { Writes em.old (bytes keeps) em.new }
 {
@@ -38,7 +38,7 @@ fn x64_emit_keeps(em: &mut X64Emitter<'_>)
 
 // What a block opens with.
 #[inline(always)]
-pub fn x64_emit_prologue(em: &mut X64Emitter<'_>)
+pub fn x64_emit_prologue(em: &mut X64Emitter<&mut [u8]>)
     requires { HasRoom em.old 32 }
     ensures { Writes em.old (bytes opening) em.new }
 {
@@ -49,7 +49,7 @@ pub fn x64_emit_prologue(em: &mut X64Emitter<'_>)
 
 // The callee-saved registers back.
 #[inline(always)]
-fn x64_emit_pops(em: &mut X64Emitter<'_>)
+fn x64_emit_pops(em: &mut X64Emitter<&mut [u8]>)
     requires { HasRoom em.old 10 }
     ensures { Writes em.old (bytes pops) em.new }
 {
@@ -63,7 +63,7 @@ fn x64_emit_pops(em: &mut X64Emitter<'_>)
 
 // What a block closes with.
 #[inline(always)]
-pub fn x64_emit_epilogue(em: &mut X64Emitter<'_>)
+pub fn x64_emit_epilogue(em: &mut X64Emitter<&mut [u8]>)
     requires { HasRoom em.old 15 }
     ensures { Writes em.old (bytes (closing ++ «ret» ∷ [])) em.new }
 {

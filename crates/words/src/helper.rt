@@ -11,7 +11,7 @@ use emitter::{Alu, X64Emitter};
 
 // What the block was entered with in RSI, RDX and RCX.
 #[inline(always)]
-fn helper_arguments(em: &mut X64Emitter<'_>)
+fn helper_arguments(em: &mut X64Emitter<&mut [u8]>)
     requires { HasRoom em.old 9 }
     ensures { Writes em.old (bytes host_arguments) em.new }
 {
@@ -23,7 +23,7 @@ fn helper_arguments(em: &mut X64Emitter<'_>)
 // The arguments, of which the last two are the instruction and its pc, and the call. These two stay two, here and in the walk: each is
 // used by itself, as in the Rust.
 #[inline(always)]
-fn helper_call(em: &mut X64Emitter<'_>, instr: u64, pc: u64, helper: u64)
+fn helper_call(em: &mut X64Emitter<&mut [u8]>, instr: u64, pc: u64, helper: u64)
     requires { HasRoom em.old 41 }
     ensures { Writes em.old (bytes (passes instr pc helper ++ call_rax ∷ [])) em.new }
 {
@@ -36,7 +36,7 @@ fn helper_call(em: &mut X64Emitter<'_>, instr: u64, pc: u64, helper: u64)
 
 // The earlier count, where there is one.
 #[inline(always)]
-fn add_count(em: &mut X64Emitter<'_>, count: u32)
+fn add_count(em: &mut X64Emitter<&mut [u8]>, count: u32)
     requires { HasRoom em.old 7 }
     ensures written { Writes em.old (bytes (add_count count)) em.new }
     ensures short { em.new.at ≤ em.old.at + 7 }
@@ -49,7 +49,7 @@ fn add_count(em: &mut X64Emitter<'_>, count: u32)
 // A helper end: arguments, call, count, closing. Both of the Rust's helper ends are this, with their helper's address.
 #[inline(always)]
 pub fn emit_native_term_helper_x64(
-    em: &mut X64Emitter<'_>,
+    em: &mut X64Emitter<&mut [u8]>,
     instr: u64,
     pc: u64,
     helper: u64,

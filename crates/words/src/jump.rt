@@ -14,7 +14,7 @@ use emitter::{Alu, Width, X64Cc, X64Emitter};
 
 // JAL: the link to rd, the target in RAX.
 #[inline(always)]
-pub fn jal(em: &mut X64Emitter<'_>, rd: XReg, link: u64, target: u64)
+pub fn jal(em: &mut X64Emitter<&mut [u8]>, rd: XReg, link: u64, target: u64)
     requires { HasRoom em.old 27 }
     ensures { Writes em.old (bytes (code_jal rd link target)) em.new }
 {
@@ -24,7 +24,7 @@ pub fn jal(em: &mut X64Emitter<'_>, rd: XReg, link: u64, target: u64)
 
 // rs1 and the immediate, without bit 0, in R10.
 #[inline(always)]
-fn jalr_target(em: &mut X64Emitter<'_>, rs1: XReg, imm: u32)
+fn jalr_target(em: &mut X64Emitter<&mut [u8]>, rs1: XReg, imm: u32)
     requires { HasRoom em.old 21 }
     ensures { Writes em.old (bytes (jalr_target rs1 imm)) em.new }
 {
@@ -35,7 +35,7 @@ fn jalr_target(em: &mut X64Emitter<'_>, rs1: XReg, imm: u32)
 
 // The link to rd through R11, since R10 holds the target; nothing for x0.
 #[inline(always)]
-fn jalr_link(em: &mut X64Emitter<'_>, rd: XReg, link: u64)
+fn jalr_link(em: &mut X64Emitter<&mut [u8]>, rd: XReg, link: u64)
     requires { HasRoom em.old 17 }
     ensures written { Writes em.old (bytes (jalr_link rd link)) em.new }
     ensures short { em.new.at ≤ em.old.at + 17 }
@@ -48,7 +48,7 @@ fn jalr_link(em: &mut X64Emitter<'_>, rd: XReg, link: u64)
 
 // JALR: the target is computed before the link is stored, since rd may be rs1.
 #[inline(always)]
-fn jalr(em: &mut X64Emitter<'_>, rd: XReg, rs1: XReg, imm: u32, link: u64)
+fn jalr(em: &mut X64Emitter<&mut [u8]>, rd: XReg, rs1: XReg, imm: u32, link: u64)
     requires { HasRoom em.old 41 }
     ensures { Writes em.old (bytes (code_jalr rd rs1 imm link)) em.new }
 {
@@ -59,7 +59,12 @@ fn jalr(em: &mut X64Emitter<'_>, rd: XReg, rs1: XReg, imm: u32, link: u64)
 
 // The words of JALR's opcode: a reserved funct3 is not taken, and nothing is written for it (document 02, Q-6). The Rust takes it as JALR.
 #[inline(always)]
-pub fn jalr_word(em: &mut X64Emitter<'_>, d: Decoded32, imm: u32, link: u64) -> Option<X64EmitFlow>
+pub fn jalr_word(
+    em: &mut X64Emitter<&mut [u8]>,
+    d: Decoded32,
+    imm: u32,
+    link: u64,
+) -> Option<X64EmitFlow>
     requires { HasRoom em.old 41 }
     ensures { Emits em.old (jalr_word d imm link) em.new result }
 {
@@ -87,7 +92,7 @@ fn branch_condition(funct3: u8) -> Option<X64Cc>
 
 // Both source registers, and their comparison.
 #[inline(always)]
-fn branch_compare(em: &mut X64Emitter<'_>, rs1: XReg, rs2: XReg)
+fn branch_compare(em: &mut X64Emitter<&mut [u8]>, rs1: XReg, rs2: XReg)
     requires { HasRoom em.old 17 }
     ensures { Writes em.old (bytes (compare rs1 rs2)) em.new }
 {
@@ -97,7 +102,7 @@ fn branch_compare(em: &mut X64Emitter<'_>, rs1: XReg, rs2: XReg)
 
 // The target in RAX where the condition holds, else the next pc.
 #[inline(always)]
-fn branch_select(em: &mut X64Emitter<'_>, next: u64, target: u64, cc: X64Cc)
+fn branch_select(em: &mut X64Emitter<&mut [u8]>, next: u64, target: u64, cc: X64Cc)
     requires { HasRoom em.old 27 }
     ensures { Writes em.old (bytes (select (cc_of cc) next target)) em.new }
 {
@@ -110,7 +115,7 @@ fn branch_select(em: &mut X64Emitter<'_>, next: u64, target: u64, cc: X64Cc)
 // BRANCH: a reserved funct3 is not taken, behind the comparison.
 #[inline(always)]
 pub fn branch_word(
-    em: &mut X64Emitter<'_>,
+    em: &mut X64Emitter<&mut [u8]>,
     d: Decoded32,
     next: u64,
     target: u64,

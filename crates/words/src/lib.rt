@@ -41,7 +41,7 @@ fn imm32(instr: u32) -> u32
 // MISC-MEM: the fences have no code of their own. Behind FENCE.I the guest's code may be another than before it, so the block ends
 // (document 02, Q-1); in the Rust it goes on.
 #[inline(always)]
-fn fence_word(em: &mut X64Emitter<'_>, funct3: u8) -> Option<X64EmitFlow>
+fn fence_word(em: &mut X64Emitter<&mut [u8]>, funct3: u8) -> Option<X64EmitFlow>
     ensures { Emits em.old (fence_word (kind_fence funct3)) em.new result }
 {
     match funct3 {
@@ -54,7 +54,7 @@ fn fence_word(em: &mut X64Emitter<'_>, funct3: u8) -> Option<X64EmitFlow>
 // The match on the opcode. The immediates, the link and the target are worked out once, here.
 #[inline(always)]
 fn emit_by_opcode(
-    em: &mut X64Emitter<'_>,
+    em: &mut X64Emitter<&mut [u8]>,
     pc: u64,
     size: u64,
     instr: u32,
@@ -101,7 +101,7 @@ fn emit_by_opcode(
 // load or store; there is no code for it but the loads in front of its test, of which JALR has none.
 #[inline(always)]
 pub fn emit_native_instr_x64(
-    em: &mut X64Emitter<'_>,
+    em: &mut X64Emitter<&mut [u8]>,
     pc: u64,
     size: u64,
     instr: u32,

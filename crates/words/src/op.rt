@@ -16,7 +16,7 @@ use emitter::{Alu, MulDiv, Shift, Width, X64Cc, X64Emitter};
 
 // OP with F7_BASE.
 #[inline(always)]
-fn op_base(em: &mut X64Emitter<'_>, funct3: u8) -> Option<X64EmitFlow>
+fn op_base(em: &mut X64Emitter<&mut [u8]>, funct3: u8) -> Option<X64EmitFlow>
     requires { HasRoom em.old 13 }
     ensures { Emits em.old (op_body (kind_op funct3 0x00)) em.new result }
 {
@@ -48,7 +48,7 @@ fn op_base(em: &mut X64Emitter<'_>, funct3: u8) -> Option<X64EmitFlow>
 
 // OP with F7_SUB_SRA.
 #[inline(always)]
-fn op_sub_sra(em: &mut X64Emitter<'_>, funct3: u8) -> Option<X64EmitFlow>
+fn op_sub_sra(em: &mut X64Emitter<&mut [u8]>, funct3: u8) -> Option<X64EmitFlow>
     requires { HasRoom em.old 13 }
     ensures { Emits em.old (op_body (kind_op funct3 0x20)) em.new result }
 {
@@ -65,7 +65,7 @@ fn op_sub_sra(em: &mut X64Emitter<'_>, funct3: u8) -> Option<X64EmitFlow>
 
 // OP with F7_MULDIV.
 #[inline(always)]
-fn op_muldiv(em: &mut X64Emitter<'_>, funct3: u8) -> Option<X64EmitFlow>
+fn op_muldiv(em: &mut X64Emitter<&mut [u8]>, funct3: u8) -> Option<X64EmitFlow>
     requires { HasRoom em.old 34 }
     ensures { Emits em.old (op_body (kind_op funct3 0x01)) em.new result }
 {
@@ -85,7 +85,7 @@ fn op_muldiv(em: &mut X64Emitter<'_>, funct3: u8) -> Option<X64EmitFlow>
 
 // The low five bits of R11 in CL.
 #[inline(always)]
-fn count32(em: &mut X64Emitter<'_>)
+fn count32(em: &mut X64Emitter<&mut [u8]>)
     requires { HasRoom em.old 7 }
     ensures { Writes em.old (bytes (mov RCX R11 ∷ alu_imm8 and RCX 0x1F ∷ [])) em.new }
 {
@@ -95,7 +95,7 @@ fn count32(em: &mut X64Emitter<'_>)
 
 // OP-32 with F7_BASE.
 #[inline(always)]
-fn op_32_base(em: &mut X64Emitter<'_>, funct3: u8) -> Option<X64EmitFlow>
+fn op_32_base(em: &mut X64Emitter<&mut [u8]>, funct3: u8) -> Option<X64EmitFlow>
     requires { HasRoom em.old 13 }
     ensures { Emits em.old (op_body (kind_op32 funct3 0x00)) em.new result }
 {
@@ -120,7 +120,7 @@ fn op_32_base(em: &mut X64Emitter<'_>, funct3: u8) -> Option<X64EmitFlow>
 
 // OP-32 with F7_SUB_SRA.
 #[inline(always)]
-fn op_32_sub_sra(em: &mut X64Emitter<'_>, funct3: u8) -> Option<X64EmitFlow>
+fn op_32_sub_sra(em: &mut X64Emitter<&mut [u8]>, funct3: u8) -> Option<X64EmitFlow>
     requires { HasRoom em.old 13 }
     ensures { Emits em.old (op_body (kind_op32 funct3 0x20)) em.new result }
 {
@@ -140,7 +140,7 @@ fn op_32_sub_sra(em: &mut X64Emitter<'_>, funct3: u8) -> Option<X64EmitFlow>
 
 // OP-32 with F7_MULDIV.
 #[inline(always)]
-fn op_32_muldiv(em: &mut X64Emitter<'_>, funct3: u8) -> Option<X64EmitFlow>
+fn op_32_muldiv(em: &mut X64Emitter<&mut [u8]>, funct3: u8) -> Option<X64EmitFlow>
     requires { HasRoom em.old 42 }
     ensures { Emits em.old (op_body (kind_op32 funct3 0x01)) em.new result }
 {
@@ -171,7 +171,11 @@ fn op_32_muldiv(em: &mut X64Emitter<'_>, funct3: u8) -> Option<X64EmitFlow>
 
 // OP on R10 and R11, the result in R10; of 32 bits OP-32.
 #[inline(always)]
-fn op_on_r10<const W: bool>(em: &mut X64Emitter<'_>, funct3: u8, funct7: u8) -> Option<X64EmitFlow>
+fn op_on_r10<const W: bool>(
+    em: &mut X64Emitter<&mut [u8]>,
+    funct3: u8,
+    funct7: u8,
+) -> Option<X64EmitFlow>
     requires { HasRoom em.old 42 }
     ensures { Emits em.old (op_body (kind_op_of W funct3 funct7)) em.new result }
 {
@@ -204,7 +208,7 @@ fn op_on_r10<const W: bool>(em: &mut X64Emitter<'_>, funct3: u8, funct7: u8) -> 
 // OP; of 32 bits OP-32. W says whether a word has 64 bits: a const parameter, so that each is compiled by itself. As an argument it kept
 // the compiler from inlining, and took five times as long (docs/PERFORMANCE.md).
 #[inline(always)]
-pub fn op_word<const W: bool>(em: &mut X64Emitter<'_>, d: Decoded32) -> Option<X64EmitFlow>
+pub fn op_word<const W: bool>(em: &mut X64Emitter<&mut [u8]>, d: Decoded32) -> Option<X64EmitFlow>
     requires { HasRoom em.old 63 }
     ensures { Emits em.old (op_word (kind_op_of W d.funct3 d.funct7) d) em.new result }
 {

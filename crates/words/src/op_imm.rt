@@ -12,7 +12,7 @@ use emitter::{Alu, Shift, Width, X64Cc, X64Emitter};
 
 // OP-IMM on R10, the result in R10.
 #[inline(always)]
-fn op_imm_on_r10(em: &mut X64Emitter<'_>, d: &Decoded32, imm: u32) -> Option<X64EmitFlow>
+fn op_imm_on_r10(em: &mut X64Emitter<&mut [u8]>, d: &Decoded32, imm: u32) -> Option<X64EmitFlow>
     requires { HasRoom em.old 14 }
     ensures { Emits em.old (op_imm_body (kind_op_imm d.now.funct3 (d.now.imm12 / 64)) d.now imm) em.new result }
 {
@@ -47,7 +47,7 @@ fn op_imm_on_r10(em: &mut X64Emitter<'_>, d: &Decoded32, imm: u32) -> Option<X64
 
 // OP-IMM-32 on R10, the result in R10.
 #[inline(always)]
-fn op_imm_32_on_r10(em: &mut X64Emitter<'_>, d: &Decoded32, imm: u32) -> Option<X64EmitFlow>
+fn op_imm_32_on_r10(em: &mut X64Emitter<&mut [u8]>, d: &Decoded32, imm: u32) -> Option<X64EmitFlow>
     requires { HasRoom em.old 14 }
     ensures { Emits em.old (op_imm_body (kind_op_imm32 d.now.funct3 d.now.funct7) d.now imm) em.new result }
 {
@@ -81,7 +81,11 @@ fn op_imm_32_on_r10(em: &mut X64Emitter<'_>, d: &Decoded32, imm: u32) -> Option<
 
 // OP-IMM on R10, the result in R10; of 32 bits OP-IMM-32.
 #[inline(always)]
-fn on_r10<const W: bool>(em: &mut X64Emitter<'_>, d: &Decoded32, imm: u32) -> Option<X64EmitFlow>
+fn on_r10<const W: bool>(
+    em: &mut X64Emitter<&mut [u8]>,
+    d: &Decoded32,
+    imm: u32,
+) -> Option<X64EmitFlow>
     requires { HasRoom em.old 14 }
     ensures { Emits em.old (op_imm_body (kind_op_imm_of W d.now) d.now imm) em.new result }
 {
@@ -95,7 +99,7 @@ fn on_r10<const W: bool>(em: &mut X64Emitter<'_>, d: &Decoded32, imm: u32) -> Op
 // OP-IMM; of 32 bits OP-IMM-32. W says whether a word has 64 bits.
 #[inline(always)]
 pub fn op_imm_word<const W: bool>(
-    em: &mut X64Emitter<'_>,
+    em: &mut X64Emitter<&mut [u8]>,
     d: Decoded32,
     imm: u32,
 ) -> Option<X64EmitFlow>

@@ -11,7 +11,7 @@ use emitter::{X64Cc, X64Emitter};
 
 // The condition after a comparison, as 0 or 1.
 #[inline(always)]
-pub fn set_flag(em: &mut X64Emitter<'_>, cc: X64Cc)
+pub fn set_flag(em: &mut X64Emitter<&mut [u8]>, cc: X64Cc)
     requires { HasRoom em.old 7 }
     ensures { Writes em.old (bytes (setcc_al (cc_of cc) ∷ movzx R10 RAX ∷ [])) em.new }
 {
@@ -21,7 +21,7 @@ pub fn set_flag(em: &mut X64Emitter<'_>, cc: X64Cc)
 
 // The low 32 bits, sign-extended: the 32-bit words.
 #[inline(always)]
-pub fn sign_extended(em: &mut X64Emitter<'_>) -> Option<X64EmitFlow>
+pub fn sign_extended(em: &mut X64Emitter<&mut [u8]>) -> Option<X64EmitFlow>
     requires { HasRoom em.old 3 }
     ensures { Emits em.old (goes_on (movsxd R10 R10 ∷ [])) em.new result }
 {

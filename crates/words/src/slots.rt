@@ -9,7 +9,7 @@ use emitter::{Gpr, X64Emitter};
 
 // Guest register reg into a host register.
 #[inline(always)]
-pub fn x64_emit_load_reg(em: &mut X64Emitter<'_>, host: Gpr, reg: XReg)
+pub fn x64_emit_load_reg(em: &mut X64Emitter<&mut [u8]>, host: Gpr, reg: XReg)
     requires { HasRoom em.old 7 }
     ensures { Writes em.old (encode (load_reg host reg)) em.new }
 {
@@ -18,7 +18,7 @@ pub fn x64_emit_load_reg(em: &mut X64Emitter<'_>, host: Gpr, reg: XReg)
 
 // A host register into guest register reg, nothing for x0.
 #[inline(always)]
-pub fn x64_emit_store_reg(em: &mut X64Emitter<'_>, reg: XReg, host: Gpr)
+pub fn x64_emit_store_reg(em: &mut X64Emitter<&mut [u8]>, reg: XReg, host: Gpr)
     requires { HasRoom em.old 7 }
     ensures { Writes em.old (bytes (store_reg reg host)) em.new }
 {
@@ -29,7 +29,7 @@ pub fn x64_emit_store_reg(em: &mut X64Emitter<'_>, reg: XReg, host: Gpr)
 
 // A constant through R10 to rd, nothing for x0.
 #[inline(always)]
-pub fn x64_emit_const(em: &mut X64Emitter<'_>, rd: XReg, value: u64)
+pub fn x64_emit_const(em: &mut X64Emitter<&mut [u8]>, rd: XReg, value: u64)
     requires { HasRoom em.old 17 }
     ensures { Writes em.old (bytes (code_const rd value)) em.new }
 {
@@ -41,7 +41,7 @@ pub fn x64_emit_const(em: &mut X64Emitter<'_>, rd: XReg, value: u64)
 
 // Both source registers, rs1 in R10 and rs2 in R11.
 #[inline(always)]
-pub fn x64_emit_load_pair(em: &mut X64Emitter<'_>, rs1: XReg, rs2: XReg)
+pub fn x64_emit_load_pair(em: &mut X64Emitter<&mut [u8]>, rs1: XReg, rs2: XReg)
     requires { HasRoom em.old 14 }
     ensures { Writes em.old (bytes (load_pair rs1 rs2)) em.new }
 {

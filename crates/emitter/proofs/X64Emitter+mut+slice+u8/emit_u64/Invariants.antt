@@ -1,7 +1,7 @@
 -- Between two bytes `RunningQuotient` holds: after k bytes the quotient is v / 256 ^ k. The output is still the one that was lent.
 use Rattle.std.proofs.Common.{◌≡◌}
 use Rattle.emitter.specs.Quotient.{RunningQuotient}
-use Rattle.emitter.proofs.X64Emitter.emit_u64.Given as goal
+use Rattle.emitter.proofs.X64Emitter+mut+slice+u8.emit_u64.Given as goal
 
 abbrev pub invariant-loop-k : goal.invariant-loop-k
 invariant-loop-k l = record {
