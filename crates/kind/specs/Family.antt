@@ -21,5 +21,8 @@ entry n c f = cond (eqb (n.taken / 2 ^ (8 * c + f) % 2) 1) (kind_at n f) NotTake
 -- the family says of every word of the opcode what `kind` does, imm_hi being all of funct7 but its lowest bit
 pub record FamilyOf (o : ℕ) (n : Family) : Type 0 where
   pub says : (f s : ℕ) → f < 8 → number_of (entry n (class_of s) f) ≡ kind_number (kind_of o f s (s / 2))
-  -- a family that takes words has a kind for them
+
+-- the same, and a family that takes words has a kind for them
+pub record FamilyWithKind (o : ℕ) (n : Family) : Type 0 where
+  pub family : FamilyOf o n
   pub some : n.taken ≢ 0 → 0 < number_of n.kind

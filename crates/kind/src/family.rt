@@ -1,6 +1,6 @@
 // The words of one opcode, for `word_kind`.
 ghost use Rattle.std.specs.Prelude.{◌≡◌, ◌≤◌};
-ghost use Rattle.kind.specs.Family.{FamilyOf, class_of};
+ghost use Rattle.kind.specs.Family.{FamilyWithKind, class_of};
 
 use crate::WordKind;
 use decode::isa;
@@ -108,7 +108,7 @@ const NONE: Family = Family {
 
 impl Family {
     pub fn of(opcode: u8) -> Family
-        ensures { FamilyOf opcode result }
+        ensures { FamilyWithKind opcode result }
     {
         match opcode {
             isa::OPCODE_LUI => CONSTANT,
